@@ -189,13 +189,14 @@ static void say(int is_right, const char *what)
     wrong = 1;
 }
 
-/* Without a limit 2^32 - 1 fields are one group, each usage of which is there by its place; where
- * there is no room for it the group isn't written. */
+/* Without a limit 2^32 - 1 fields are one report and one group, each usage of which is there by its
+ * place; where there is no room for it the group isn't written. */
 static void ask_for_groups(void)
 {
     const struct row *row = &rows[0];
     const uint8_t *bytes = (const uint8_t *)row->front;
     struct hidreport_options options = HIDREPORT_DEFAULTS;
+    struct hidreport_report report;
     struct hidreport_group group;
     uint32_t usage[2] = {7, 7};
 
@@ -204,6 +205,10 @@ static void ask_for_groups(void)
     struct hidreport_answer answer =
         hidreport_groups(bytes, row->front_length, options, HIDREPORT_INPUT, &group, 0);
     say(answer.count == 1 && group.first_bit == SIZE_MAX, "a group without room");
+    answer = hidreport_reports(bytes, row->front_length, options, HIDREPORT_INPUT, &report, 1);
+    say(answer.status == HIDREPORT_ACCEPTED && answer.count == 1
+        && report.field_count == UINT32_MAX && report.size_in_bits == UINT32_MAX && !report.has_id,
+        "2^32 - 1 fields as one report");
     answer = hidreport_groups(bytes, row->front_length, options, HIDREPORT_INPUT, &group, 1);
     say(answer.status == HIDREPORT_ACCEPTED && answer.count == 1 && group.kind == HIDREPORT_VARIABLE
         && group.element_count == UINT32_MAX && group.field_count == UINT32_MAX

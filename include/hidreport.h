@@ -294,7 +294,8 @@ struct hidreport_change {
 /* The version of the library: HIDREPORT_VERSION of its own header. */
 uint32_t hidreport_version(void);
 
-/* The reports that a descriptor announces in a direction, in the order of their first fields. */
+/* The reports that a descriptor announces in a direction, in the order of their first fields. No
+ * field is listed for it, so that it takes the memory of hidreport_groups. */
 struct hidreport_answer hidreport_reports(const uint8_t *descriptor, size_t length,
                                           struct hidreport_options options, uint32_t direction,
                                           struct hidreport_report *reports, size_t room);

@@ -2,11 +2,11 @@
 # What C gets, by the header and by the cargo package: the questions of c/cases.txt are asked of the
 # static library by a C program and by a Rust one, whose answers have to be those that stand there.
 # A program in C++ tries the header's defaults.
-# Then the tests of the cargo package are run: its numbers, its refusals, and want of memory in either
-# of the two calls that a list takes. Its argument is a folder that ./install filled; without one it
-# fills one. With `behind-ci` it builds
-# the library over what `rt ci` has just proved (checks/c/library.sh), in two minutes. Where no C
-# compiler is there, or no cargo, it says so and leaves that part out.
+# Then the tests of the cargo package are run: its numbers, its refusals, and want of memory, where
+# each piece of each list is refused by itself. Its argument is a folder that ./install filled;
+# without one it fills one. With `behind-ci` it builds the library over what `rt ci` has just proved
+# (checks/c/library.sh), in two minutes. Where no C compiler is there, or no cargo, it says so and
+# leaves that part out.
 set -eu
 export LC_ALL=C
 

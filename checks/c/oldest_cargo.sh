@@ -45,8 +45,8 @@ try() {
     rm -rf target
     CC=$1 LD_LIBRARY_PATH=$libraries cargo test --offline --locked > "$scratch/said" 2>&1 ||
         wrong "CC=$1: the tests fail"
-    [ "$(grep -c '^test result: ok' "$scratch/said")" -eq 5 ] || wrong "CC=$1: other tests than five kinds"
-    [ "$(grep -c '^test .* ok$' "$scratch/said")" -ge 15 ] || wrong "CC=$1: fewer tests"
+    [ "$(grep -c '^test result: ok' "$scratch/said")" -eq 6 ] || wrong "CC=$1: other tests than six kinds"
+    [ "$(grep -c '^test .* ok$' "$scratch/said")" -ge 18 ] || wrong "CC=$1: fewer tests"
     asked=$((asked + 5))
 }
 for compiler in cc 'env gcc' 'ccache gcc'; do

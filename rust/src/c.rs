@@ -256,12 +256,12 @@ pub fn items(descriptor: &[u8]) -> Result<Vec<Item>, Refusal> {
 }
 
 /// Where the items stand before the first that can't be read, or all: behind the last of them
-/// stands what `items` refuses.
-pub fn front_items(descriptor: &[u8]) -> Vec<Item> {
-    let items = listed(descriptor.len().min(FEW), Item::default(), |items, room| unsafe {
+/// stands what `items` refuses. Only want of memory is refused.
+pub fn front_items(descriptor: &[u8]) -> Result<Vec<Item>, Status> {
+    listed(descriptor.len().min(FEW), Item::default(), |items, room| unsafe {
         sys::hidreport_front_items(descriptor.as_ptr(), descriptor.len(), items, room)
-    });
-    items.unwrap_or_default()
+    })
+    .map_err(|unlisted| unlisted.status)
 }
 
 /// A descriptor written anew, each item in its shortest spelling.

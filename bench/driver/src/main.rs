@@ -1,6 +1,7 @@
 //! Measures this library, the Rust crate and Chromium's parser side by side.
 mod growth;
 mod growth_cases;
+mod reports;
 mod times;
 mod timing;
 
@@ -9,7 +10,7 @@ use sides::{descriptors, ours, theirs};
 use std::hint::black_box;
 use std::process::ExitCode;
 
-const USAGE: &str = "usage: driver times FOLDER LIST | growth | \
+const USAGE: &str = "usage: driver times FOLDER LIST | reports FOLDER LIST | growth | \
     repeat FOLDER LIST NAME|all WHAT ROUNDS";
 
 fn main() -> ExitCode {
@@ -17,6 +18,7 @@ fn main() -> ExitCode {
     let words: Vec<&str> = words.iter().map(String::as_str).collect();
     let done = match words.as_slice() {
         ["times", folder, list] => times::print(folder, list),
+        ["reports", folder, list] => reports::print(folder, list),
         ["growth"] => growth::print(),
         ["repeat", folder, list, name, what, rounds] => repeat(folder, list, name, what, rounds),
         _ => Err(USAGE.to_string()),

@@ -29,6 +29,26 @@ unsafe extern "C" {
         values_length: usize,
         rounds: usize,
     ) -> u64;
+    fn bench_read_report(
+        bytes: *const u8,
+        length: usize,
+        place: usize,
+        frames: *const u8,
+        frames_length: usize,
+        frame_size: usize,
+        rounds: usize,
+    ) -> u64;
+    fn bench_read_report_by_reader(
+        bytes: *const u8,
+        length: usize,
+        place: usize,
+        frames: *const u8,
+        frames_length: usize,
+        frame_size: usize,
+        values: *mut i64,
+        values_length: usize,
+        rounds: usize,
+    ) -> u64;
     fn bench_write(
         bytes: *const u8,
         length: usize,
@@ -83,6 +103,39 @@ pub fn read_by_readers(bytes: &[u8], frames: &Frames, rounds: usize) -> u64 {
         bench_read_by_readers(
             bytes.as_ptr(),
             bytes.len(),
+            frames.bytes.as_ptr(),
+            frames.bytes.len(),
+            frames.size,
+            values.as_mut_ptr(),
+            values.len(),
+            rounds,
+        )
+    }
+}
+
+/// The same as `read` of one report, by its place in a frame, of frames with its bytes alone.
+pub fn read_report(bytes: &[u8], place: usize, frames: &Frames, rounds: usize) -> u64 {
+    unsafe {
+        bench_read_report(
+            bytes.as_ptr(),
+            bytes.len(),
+            place,
+            frames.bytes.as_ptr(),
+            frames.bytes.len(),
+            frames.size,
+            rounds,
+        )
+    }
+}
+
+/// The same by a reader.
+pub fn read_report_by_reader(bytes: &[u8], place: usize, frames: &Frames, rounds: usize) -> u64 {
+    let mut values = vec![0; frames.size * 8];
+    unsafe {
+        bench_read_report_by_reader(
+            bytes.as_ptr(),
+            bytes.len(),
+            place,
             frames.bytes.as_ptr(),
             frames.bytes.len(),
             frames.size,

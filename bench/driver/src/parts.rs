@@ -85,6 +85,29 @@ pub fn frames(bytes: &[u8], seed: u64) -> Result<Frames, String> {
     Ok(frames)
 }
 
+/// How many bytes and how many values each report has, in the order of a frame.
+#[allow(dead_code)]
+pub fn report_sizes(bytes: &[u8]) -> Vec<(usize, u64)> {
+    let mut sizes = Vec::new();
+    if let Ok(descriptor) = ReportDescriptor::try_from(bytes) {
+        add_sizes(&mut sizes, descriptor.input_reports());
+        add_sizes(&mut sizes, descriptor.output_reports());
+        add_sizes(&mut sizes, descriptor.feature_reports());
+    }
+    sizes
+}
+
+fn add_sizes(sizes: &mut Vec<(usize, u64)>, reports: &[impl Report]) {
+    for report in reports {
+        let values = report.fields().iter().map(|field| match field {
+            Field::Variable(_) => 1,
+            Field::Array(field) => usize::from(field.report_count) as u64,
+            Field::Constant(_) => 0,
+        });
+        sizes.push((report.size_in_bytes(), values.sum()));
+    }
+}
+
 fn add_reports_bytes(bytes: &mut Vec<u8>, reports: &[impl Report], state: &mut u64) {
     for report in reports {
         let first = bytes.len();

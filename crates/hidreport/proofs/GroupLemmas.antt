@@ -9,15 +9,27 @@ use Rattle.hidreport.specs.Fields.{Beginning, each_from, make_fields, usage_at}
 use Rattle.hidreport_fields.specs.ItemParts.{field_count}
 use Rattle.hidreport.specs.Groups.{taken_of}
 use Rattle.hidreport.specs.Parser.Groups.{HasFirst}
-use Rattle.hidreport.specs.Parser.Layout.{IsPossible, beginning_of, extent_of, laid_out, shared_of}
-use Rattle.hidreport.specs.Parser.Layout.{variable_of}
-use Rattle.hidreport_fields.specs.Records.{Attributes, FieldRecord}
+use Rattle.hidreport.specs.Parser.Layout.{IsPossible, beginning_of, extent_of, laid_out, place_at}
+use Rattle.hidreport.specs.Parser.Layout.{shared_list, shared_of, variable_of, variable_with}
+use Rattle.hidreport_fields.specs.ItemParts.{attributes_with}
+use Rattle.hidreport_fields.specs.Records.{Attributes, CollectionRecord, FieldPlace, FieldRecord}
+use Rattle.hidreport_fields.specs.Records.{VariableRecord}
 use Rattle.hidreport.specs.Usages.{UsageList}
 use Rattle.hidreport_fields.specs.declared.field.usage.Usage.{Usage}
 use Rattle.hidreport.specs.declared.parser.extent.Extent.{Extent}
 use Rattle.hidreport.specs.declared.parser.layout.Layout.{Layout}
 use Rattle.hidreport.proofs.HostUsageLemmas.{listed, some-first}
 use Rattle.hidreport.proofs.ListedLemmas.{fields-taken}
+
+-- a field that is made of its place, its usage, and what the fields of its item share
+pub made-variable : (l : Layout) (u : Usage) (c : ℕ) (f : FieldRecord) (p : FieldPlace)
+    (cs : List CollectionRecord)
+    → f ≡ VariableRecord p u (attributes_with l.item.direction l.item.flags l.measures cs)
+    → p ≡ place_at l c → cs ≡ shared_list l.collections → f ≡ variable_with l u c
+made-variable l u c f p cs made at around =
+    let with = attributes_with l.item.direction l.item.flags l.measures in
+    made ∙ ap (λ (q : FieldPlace). VariableRecord q u (with cs)) at
+    ∙ ap (λ (ds : List CollectionRecord). VariableRecord (place_at l c) u (with ds)) around
 
 each-get : {A : Type 0} (f : ℕ → A) (c n k : ℕ) → k < n
     → slice_get (each_from f c n) k ≡ Some (f (c + k))

@@ -1,23 +1,43 @@
 -- The groups that references lend, told to C.
 use Rattle.std.proofs.Common.{◌≡◌, ℕ, List, [], ◌∷◌, length, map, Bor, refl, ap, sym}
 use Rattle.std.proofs.Common.{◌∙◌, inl, inr, Option, None, Some, Result, Ok, Err, IfOk}
+use Rattle.std.proofs.Common.{Bool, true, false}
+use Rattle.std.specs.Prelude.{◌==◌, if◌then◌else◌}
 use Rattle.std.proofs.lemmas.List.{length-map}
 use Rattle.std.proofs.lemmas.Option.{slice_get-map}
 use Rattle.std.specs.Option.{option_copied}
 use Rattle.std.specs.Prelude.{MatchResult, option_map, slice_get}
 use Rattle.std.specs.Slice.{IsItemAt}
-use Rattle.hidreport.specs.Groups.{GroupRecord, group_fields}
+use Rattle.hidreport.specs.Groups.{GroupRecord, GroupedReport, OutlineRecord, group_fields}
+use Rattle.hidreport.specs.Groups.{listed, listed_report}
 use Rattle.hidreport.specs.Views.{field_record}
 use Rattle.hidreport_fields.specs.declared.field.Field.{Field}
 use Rattle.hidreport_c.proofs.UsagesLemmas.{copied-item}
 use Rattle.hidreport_c.proofs.ListsLemmas.{written-none}
 use Rattle.hidreport_c.specs.Answer.{Lists, array_after, counted, no_memory}
+use Rattle.hidreport_c.specs.Describe.{reports_in_direction}
 use Rattle.hidreport_c.specs.Group.{group_as_c, groups_as_c, lent, one_or_none}
 use Rattle.hidreport_c.specs.Group.{field_in, field_placed, usage_listed}
 use Rattle.hidreport_c.specs.Lookup.{field_or_none}
 use Rattle.hidreport_c.specs.declared.structs.HidreportAnswer.{HidreportAnswer}
 use Rattle.hidreport_c.specs.declared.structs.HidreportField.{HidreportField}
 use Rattle.hidreport_c.specs.declared.structs.HidreportGroup.{HidreportGroup}
+
+by-direction : (inputs outputs features : Bool) (x y z : List GroupedReport)
+    → (if inputs then map listed_report x else (if outputs then map listed_report y
+    else (if features then map listed_report z else [])))
+    ≡ map listed_report (if inputs then x else (if outputs then y else (if features then z else [])))
+by-direction true outputs features x y z = refl
+by-direction false true features x y z = refl
+by-direction false false true x y z = refl
+by-direction false false false x y z = refl
+
+-- the reports of a direction, their fields listed
+pub reports-listed : (direction : ℕ) (o : OutlineRecord)
+    → reports_in_direction direction (listed o)
+    ≡ map listed_report (reports_in_direction direction o)
+reports-listed direction o =
+    by-direction (direction == 0) (direction == 1) (direction == 2) o.input o.output o.feature
 
 lent-in-c : (found : List (Bor GroupRecord))
     → map (λ (g : Bor GroupRecord). group_as_c g.now) found ≡ groups_as_c (lent found)

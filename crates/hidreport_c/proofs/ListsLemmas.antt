@@ -16,11 +16,12 @@ use Rattle.std.proofs.Math.Seq.{drop-nil, take-nil}
 use Rattle.hidreport.specs.Answer.{Refusal, Refuses, InvalidData, OutOfBounds, MismatchingReportId, BudgetExceeded}
 use Rattle.hidreport_c.specs.Options.{read_by}
 use Rattle.hidreport_c.specs.declared.options.Reading.{Reading}
-use Rattle.hidreport.specs.Records.{DescriptorRecord}
+use Rattle.hidreport.specs.Records.{DescriptorRecord, ReportRecord}
 use Rattle.hidreport.specs.ParserError.{ParserError}
 use Rattle.hidreport.specs.ParserError.TheVariants as errors
 use Rattle.hidreport_c.specs.Answer.{Lists, ListsBy, IsRead, IsReadAs, Tells, array_after}
 use Rattle.hidreport_c.specs.Answer.{counted, error_as_c, listed, refusal_as_c}
+use Rattle.hidreport_c.specs.Describe.{AreReports, reports_in_direction}
 use Rattle.hidreport_c.specs.Message.{Says, message_in, message_of, words_of}
 use Rattle.hidreport_c.specs.declared.structs.HidreportAnswer.{HidreportAnswer}
 
@@ -274,3 +275,14 @@ pub lists-read : {A : Type 0} (d : DescriptorRecord) (options : Option Reading)
     → ListsBy (λ chosen. listed parts (read_by chosen bytes)) options old new told
 lists-read d options bytes parts old new told h lists =
     lists-read-as read_by d options bytes parts old new told h lists
+
+-- a list in the reports of a direction is told as it is there
+pub lists-in : {A : Type 0} (direction : ℕ) (reports : List ReportRecord)
+    (options : Option Reading) (bytes : List ℕ) (parts : List ReportRecord → List A)
+    (old new : List A) (told : HidreportAnswer) → AreReports direction reports options bytes
+    → Lists (Ok (parts reports)) old new told
+    → ListsBy (λ chosen. listed (λ d. parts (reports_in_direction direction d))
+    (read_by chosen bytes)) options old new told
+lists-in direction reports options bytes parts old new told are lists =
+    lists-read are.descriptor options bytes (λ d. parts (reports_in_direction direction d)) old new
+    told are.read (rw (sym are.are) lists)

@@ -5,7 +5,7 @@ use Rattle.hidreport.specs.Answer.{Refusal, InvalidData, OutOfBounds, Mismatchin
 use Rattle.hidreport.specs.Records.{DescriptorRecord}
 use Rattle.hidreport.specs.ParserError.{ParserError}
 use Rattle.hidreport.specs.ParserError.TheVariants as errors
-use Rattle.hidreport.specs.Groups.{OutlineRecord}
+use Rattle.hidreport.specs.Groups.{OutlineRecord, listed as with_fields}
 use Rattle.hidreport_c.specs.Options.{outline_by, read_by, reading_of}
 use Rattle.hidreport_c.specs.declared.options.Reading.{Reading}
 use Rattle.hidreport_c.specs.Status.{status_of}
@@ -111,3 +111,8 @@ IsReadAs read (Err told) (Some options) bytes = Tells told (read options bytes)
 -- the descriptor that bytes are, or what C is told
 abbrev pub IsRead : Result DescriptorRecord HidreportAnswer → Option Reading → List ℕ → Type 0
 IsRead = IsReadAs read_by
+
+-- the same of the descriptor that an outline is, its fields listed
+abbrev pub IsReadListed : Result OutlineRecord HidreportAnswer → Option Reading → List ℕ → Type 0
+IsReadListed (Ok outline) = IsRead (Ok (with_fields outline))
+IsReadListed (Err told) = IsRead (Err told)

@@ -1,8 +1,10 @@
 -- The fields of a descriptor's reports as C has them.
-use Rattle.std.specs.Prelude.{ℕ, ◌==◌, if◌then◌else◌, List, [], map, flat_map, Option, None, Some}
+use Rattle.std.specs.Prelude.{◌≡◌, ℕ, ◌==◌, if◌then◌else◌, List, [], map, flat_map, Option, None, Some, Ok}
 use Rattle.hidreport.specs.Lookup.{find_report}
 use Rattle.hidreport.specs.Records.{DescriptorOf, DescriptorRecord, ReportOf, ReportRecord}
+use Rattle.hidreport_c.specs.Answer.{IsRead}
 use Rattle.hidreport_c.specs.Field.{as_c}
+use Rattle.hidreport_c.specs.declared.options.Reading.{Reading}
 use Rattle.hidreport_c.specs.declared.structs.HidreportField.{HidreportField}
 
 -- the reports of a direction: 0 from the device, 1 from the host, 2 features
@@ -11,6 +13,13 @@ reports_in_direction direction d =
     if direction == 0 then d.input
     else (if direction == 1 then d.output
     else (if direction == 2 then d.feature else []))
+
+-- these are the reports of a direction of the descriptor that bytes are, read so
+pub record AreReports (direction : ℕ) (reports : List ReportRecord) (options : Option Reading)
+    (bytes : List ℕ) : Type 0 where
+  pub descriptor : DescriptorRecord
+  pub read : IsRead (Ok descriptor) options bytes
+  pub are : reports ≡ reports_in_direction direction descriptor
 
 -- the fields of these reports, in order
 abbrev pub fields_as_c : List ReportRecord → List HidreportField

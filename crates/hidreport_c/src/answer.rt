@@ -1,6 +1,6 @@
 //! What C is told of a list, and how a descriptor is read for it.
 ghost use Rattle.std.specs.Prelude.{◌≡◌, length};
-ghost use Rattle.hidreport_c.specs.Answer.{IsRead, IsReadAs, array_after, counted, error_as_c, refused};
+ghost use Rattle.hidreport_c.specs.Answer.{IsRead, IsReadAs, IsReadListed, array_after, counted, error_as_c, refused};
 ghost use Rattle.hidreport_c.specs.Options.{outline_by, reading_of};
 
 use crate::status::{
@@ -58,7 +58,8 @@ pub(crate) fn outline(
     bytes: &[u8],
     options: HidreportOptions,
 ) -> Result<Outline, HidreportAnswer>
-    ensures { IsReadAs outline_by result (reading_of options) bytes.now }
+    ensures grouped { IsReadAs outline_by result (reading_of options) bytes.now }
+    ensures listed { IsReadListed result (reading_of options) bytes.now }
 {
     let Some(reading) = options.reading() else {
         return Err(HidreportAnswer::refused(UNKNOWN_OPTION));
@@ -87,12 +88,12 @@ pub(crate) fn refusal(error: &ParserError) -> HidreportAnswer
     }
 }
 
-/// Writes bytes to an array, as many as there is room for.
-pub(crate) fn write_bytes(bytes: &[u8], array: &mut [u8]) -> HidreportAnswer
-    ensures count { result ≡ counted (length bytes.now) }
-    ensures written { array.new ≡ array_after bytes.now array.old }
+/// Writes a list to an array, as much as there is room for.
+pub(crate) fn write_list<T: Copy>(list: &[T], array: &mut [T]) -> HidreportAnswer
+    ensures count { result ≡ counted (length list.now) }
+    ensures written { array.new ≡ array_after list.now array.old }
 {
-    let count = bytes.len().min(array.len());
-    array[..count].copy_from_slice(&bytes[..count]);
-    HidreportAnswer::counted(bytes.len())
+    let count = list.len().min(array.len());
+    array[..count].copy_from_slice(&list[..count]);
+    HidreportAnswer::counted(list.len())
 }

@@ -1,18 +1,23 @@
 //! What a descriptor announces in a direction: its reports and their fields.
-ghost use Rattle.std.specs.Prelude.{◌≡◌, ◌<◌, ◌^◌, Ok, IfSome, length, option_copied};
+ghost use Rattle.std.specs.Prelude.{◌≡◌, ◌<◌, ◌^◌, Err, Ok, IfErr, IfOk, IfSome, length, map, option_copied};
+ghost use Rattle.hidreport.specs.Groups.{fields_of_groups, listed_report};
 ghost use Rattle.hidreport.specs.Lookup.{find_report};
-ghost use Rattle.hidreport_c.specs.Answer.{Lists, ListsOf};
-ghost use Rattle.hidreport_c.specs.Describe.{described_fields, fields_as_c, found_fields, fields_or_none, reports_in_direction};
+ghost use Rattle.hidreport_c.specs.Answer.{IsRead, Lists, ListsOf};
+ghost use Rattle.hidreport_c.specs.Options.{reading_of};
+ghost use Rattle.hidreport_c.specs.Describe.{AreReports, described_fields, fields_as_c, found_fields, fields_or_none, reports_in_direction};
 ghost use Rattle.hidreport_c.specs.Report.{described_reports, report_as_c};
 ghost use Rattle.hidreport.specs.UsageNumber.{usage_number};
 ghost use Rattle.hidreport_c.specs.Lookup.{given_id, report_in, report_listed, report_or_none};
 
-use crate::answer::read;
+use crate::answer::{outline, read, write_list};
+use crate::group;
 use crate::part::{Part, write, write_behind};
 use crate::status::OUT_OF_MEMORY;
 use crate::structs::{HidreportAnswer, HidreportField, HidreportOptions, HidreportReport};
-use hidreport::{Direction, RDescReport, Report, ReportDescriptor, ReportId, Usage};
-use std::alloc::Global;
+use hidreport::{
+    Direction, Group, OutlineReport, RDescReport, Report, ReportDescriptor, ReportId, Usage,
+};
+use std::alloc::{AllocError, Global};
 use std::slice;
 
 /// The fields that a descriptor announces in a direction, in the order of its reports and of their
@@ -34,8 +39,8 @@ pub extern "C" fn hidreport_describe(
     ensures { ListsOf (described_fields direction) options descriptor.now fields.old fields.new
         result }
 {
-    match read(alloc, descriptor, options) {
-        Ok(descriptor) => write_fields(reports_of(&descriptor, direction), fields),
+    match reports_in(alloc, descriptor, options, direction) {
+        Ok(reports) => write_fields(&reports, fields),
         Err(refused) => refused,
     }
 }
@@ -74,16 +79,34 @@ pub(crate) fn given_id(has_id: bool, id: u8) -> Option<ReportId>
     }
 }
 
-/// The reports of a direction.
-pub(crate) fn reports_of(descriptor: &ReportDescriptor, direction: u32) -> &[RDescReport]
-    ensures { result.now ≡ reports_in_direction direction descriptor.now }
+/// The reports of a direction of the descriptor that bytes are, read by these options, or what C is
+/// told in their place. Fields of other directions aren't listed.
+pub(crate) fn reports_in(
+    alloc: Global,
+    bytes: &[u8],
+    options: HidreportOptions,
+    direction: u32,
+) -> Result<Vec<RDescReport>, HidreportAnswer>
+    ensures read { IfOk result (λ reports.
+        AreReports direction reports.items (reading_of options) bytes.now) }
+    ensures refused { IfErr result (λ told. IsRead (Err told) (reading_of options) bytes.now) }
 {
-    match direction {
-        0 => descriptor.input_reports(),
-        1 => descriptor.output_reports(),
-        2 => descriptor.feature_reports(),
-        _ => &[],
+    let outline = outline(alloc, bytes, options)?;
+    match laid_out(alloc, group::reports_of(&outline, direction)) {
+        Ok(reports) => Ok(reports),
+        Err(_) => Err(HidreportAnswer::refused(OUT_OF_MEMORY)),
     }
+}
+
+/// Reports with their fields listed.
+fn laid_out(alloc: Global, reports: &[OutlineReport]) -> Result<Vec<RDescReport>, AllocError>
+    ensures { IfOk result (λ list. list.items ≡ map listed_report reports.now) }
+{
+    let mut list = Vec::with_capacity(alloc, reports.len())?;
+    for report in reports {
+        list.push_reserved(report.lay_out(alloc)?);
+    }
+    Ok(list)
 }
 
 /// The report of a direction that these bytes are of.
@@ -117,6 +140,61 @@ pub(crate) fn report_with_id(
         2 => descriptor.report(Direction::Feature, id),
         _ => None,
     }
+}
+
+/// Writes reports, or says that memory was refused.
+fn write_reports(
+    alloc: Global,
+    reports: &[OutlineReport],
+    array: &mut [HidreportReport],
+) -> HidreportAnswer
+    ensures { Lists (Ok (map report_as_c (map listed_report reports.now))) array.old array.new
+        result }
+{
+    match reports_as_c(alloc, reports) {
+        Some(list) => write_list(&list, array),
+        None => HidreportAnswer::refused(OUT_OF_MEMORY),
+    }
+}
+
+/// Reports as C has them; none where memory is refused, or could not hold the fields of one.
+fn reports_as_c(alloc: Global, reports: &[OutlineReport]) -> Option<Vec<HidreportReport>>
+    ensures { IfSome result (λ list.
+        list.items ≡ map report_as_c (map listed_report reports.now)) }
+{
+    let mut list = Vec::with_capacity(alloc, reports.len()).ok()?;
+    for report in reports {
+        list.push_reserved(grouped_as_c(report)?);
+    }
+    Some(list)
+}
+
+/// A report as C has it; none where memory could not hold its fields.
+fn grouped_as_c(report: &OutlineReport) -> Option<HidreportReport>
+    ensures { IfSome result (λ told. told ≡ report_as_c (listed_report report.now)) }
+{
+    let id = *report.report_id();
+    Some(HidreportReport {
+        size_in_bits: report.size_in_bits(),
+        size_in_bytes: report.size_in_bytes(),
+        field_count: count_listed(report.groups())?,
+        has_id: id.is_some(),
+        id: match id {
+            Some(id) => u8::from(id),
+            None => 0,
+        },
+    })
+}
+
+/// How many fields groups make; none where there are more than memory could hold.
+fn count_listed(groups: &[Group]) -> Option<usize>
+    ensures { IfSome result (λ count. count ≡ length (fields_of_groups groups.now)) }
+{
+    let mut count: usize = 0;
+    for group in groups {
+        count = count.checked_add(group.field_count())?;
+    }
+    Some(count)
 }
 
 /// Writes a report, if there is one.
@@ -201,7 +279,9 @@ impl Part for Usage {
 /// The reports that a descriptor announces in a direction (Section 5.6), in the order of their
 /// first fields; the directions are those of `hidreport_describe`.
 ///
-/// They are written, counted and refused as `hidreport_describe` says.
+/// No field is listed for it, so that the memory which is taken is that of the descriptor's items
+/// and of the usages of collections. They are written, counted and refused as `hidreport_describe`
+/// says.
 #[unsafe(no_mangle)]
 pub extern "C" fn hidreport_reports(
     alloc: Global,
@@ -213,8 +293,8 @@ pub extern "C" fn hidreport_reports(
     ensures { ListsOf (described_reports direction) options descriptor.now reports.old reports.new
         result }
 {
-    match read(alloc, descriptor, options) {
-        Ok(descriptor) => write(reports_of(&descriptor, direction), reports),
+    match outline(alloc, descriptor, options) {
+        Ok(outline) => write_reports(alloc, group::reports_of(&outline, direction), reports),
         Err(refused) => refused,
     }
 }

@@ -111,7 +111,7 @@ pub extern "C" fn hidreport_group_field(
 }
 
 /// The reports of a direction.
-fn reports_of(outline: &Outline, direction: u32) -> &[OutlineReport]
+pub(crate) fn reports_of(outline: &Outline, direction: u32) -> &[OutlineReport]
     ensures { result.now ≡ reports_in_direction direction outline.now }
 {
     match direction {

@@ -4,7 +4,7 @@ ghost use Rattle.hidreport_c.specs.Answer.{Lists, array_after, counted};
 ghost use Rattle.hidreport_c.specs.ItemName.{flags_named, item_named, kind_named, words_for};
 ghost use Rattle.hidreport_usages.specs.FlagWords.{flag_text};
 
-use crate::answer::write_bytes;
+use crate::answer::write_list;
 use crate::name::write_text;
 use crate::structs::HidreportAnswer;
 use hidreport::hid::{CollectionItem, ItemType, MainItem, front_item};
@@ -19,8 +19,8 @@ pub extern "C" fn hidreport_item_name(item: &[u8], text: &mut [u8]) -> Hidreport
     ensures written { text.new ≡ array_after (item_named item.now) text.old }
 {
     match front_item(item) {
-        Ok(front) => write_bytes(item_name(&front.item).as_bytes(), text),
-        Err(_) => write_bytes(&[], text),
+        Ok(front) => write_list(item_name(&front.item).as_bytes(), text),
+        Err(_) => write_list(&[], text),
     }
 }
 
@@ -64,10 +64,10 @@ pub extern "C" fn hidreport_collection_name(kind: u32, text: &mut [u8]) -> Hidre
     ensures written { text.new ≡ array_after (kind_named kind) text.old }
 {
     match u8::try_from(kind) {
-        Ok(number) => write_bytes(
+        Ok(number) => write_list(
             collection_name(&CollectionItem::from(number)).as_bytes(),
             text,
         ),
-        Err(_) => write_bytes(&[], text),
+        Err(_) => write_list(&[], text),
     }
 }

@@ -8,7 +8,7 @@ ghost use Rattle.hidreport_c.specs.Answer.{Lists, array_after, counted, listed};
 ghost use Rattle.hidreport_c.specs.declared.structs.HidreportItem.{HidreportItem};
 ghost use Rattle.hidreport_c.specs.Items.{front_items, item_as_c, items_as_c, items_end};
 
-use crate::answer::{refusal, write_bytes};
+use crate::answer::{refusal, write_list};
 use crate::part::{Part, write};
 use crate::structs::{HidreportAnswer, HidreportItem};
 use hidreport::hid::{Item, ReportDescriptorItem, ReportDescriptorItems, front_item, rebuild};
@@ -102,7 +102,7 @@ pub extern "C" fn hidreport_rebuild(
         bytes.old bytes.new result }
 {
     match rebuild(alloc, descriptor) {
-        Ok(rebuilt) => write_bytes(&rebuilt, bytes),
+        Ok(rebuilt) => write_list(&rebuilt, bytes),
         Err(error) => refusal(&error),
     }
 }

@@ -11,7 +11,7 @@ ghost use Rattle.hidreport_c.specs.Describe.{reports_in_direction};
 ghost use Rattle.hidreport_c.specs.Listings.{collection_numbers, described_collection_usages, described_collections, described_usages, found_usages, usage_numbers};
 
 use crate::answer::read;
-use crate::describe::{report_of, reports_of};
+use crate::describe::{report_of, reports_in};
 use crate::listing::{Listing, write_all};
 use crate::part::write;
 use crate::structs::{HidreportAnswer, HidreportCollection, HidreportOptions};
@@ -43,8 +43,8 @@ pub extern "C" fn hidreport_describe_usages(
     ensures { ListsOf (described_usages direction) options descriptor.now usages.old usages.new
         result }
 {
-    match read(alloc, descriptor, options) {
-        Ok(descriptor) => write_all::<Usages>(reports_of(&descriptor, direction), usages),
+    match reports_in(alloc, descriptor, options, direction) {
+        Ok(reports) => write_all::<Usages>(&reports, usages),
         Err(refused) => refused,
     }
 }
@@ -85,8 +85,8 @@ pub extern "C" fn hidreport_describe_collections(
     ensures { ListsOf (described_collections direction) options descriptor.now collections.old
         collections.new result }
 {
-    match read(alloc, descriptor, options) {
-        Ok(descriptor) => write_all::<Collections>(reports_of(&descriptor, direction), collections),
+    match reports_in(alloc, descriptor, options, direction) {
+        Ok(reports) => write_all::<Collections>(&reports, collections),
         Err(refused) => refused,
     }
 }
@@ -106,8 +106,8 @@ pub extern "C" fn hidreport_describe_collection_usages(
     ensures { ListsOf (described_collection_usages direction) options descriptor.now usages.old
         usages.new result }
 {
-    match read(alloc, descriptor, options) {
-        Ok(descriptor) => write_all::<CollectionUsages>(reports_of(&descriptor, direction), usages),
+    match reports_in(alloc, descriptor, options, direction) {
+        Ok(reports) => write_all::<CollectionUsages>(&reports, usages),
         Err(refused) => refused,
     }
 }

@@ -4,7 +4,7 @@ ghost use Rattle.hidreport_c.specs.Message.{Says, items_message, parse_message, 
 ghost use Rattle.hidreport_c.specs.Options.{options_of, reading_of};
 ghost use Rattle.hidreport_c.specs.Repair.{repair_options_of};
 
-use crate::answer::write_bytes;
+use crate::answer::write_list;
 use crate::status::{OUT_OF_MEMORY, UNKNOWN_OPTION};
 use crate::structs::{HidreportAnswer, HidreportOptions};
 use hidreport::hid::ReportDescriptorItems;
@@ -76,10 +76,10 @@ fn write_message(error: &ParserError, text: &mut [u8]) -> HidreportAnswer
     ensures { Says (words_of error.now) text.old text.new result }
 {
     match error {
-        ParserError::InvalidData { message, .. } => write_bytes(message.as_bytes(), text),
-        ParserError::OutOfBounds => write_bytes(b"out of bounds", text),
-        ParserError::MismatchingReportId => write_bytes(b"the bytes are of another report", text),
+        ParserError::InvalidData { message, .. } => write_list(message.as_bytes(), text),
+        ParserError::OutOfBounds => write_list(b"out of bounds", text),
+        ParserError::MismatchingReportId => write_list(b"the bytes are of another report", text),
         ParserError::OutOfMemory => HidreportAnswer::refused(OUT_OF_MEMORY),
-        ParserError::BudgetExceeded { .. } => write_bytes(b"budget exceeded", text),
+        ParserError::BudgetExceeded { .. } => write_list(b"budget exceeded", text),
     }
 }

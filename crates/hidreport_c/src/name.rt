@@ -8,7 +8,7 @@ ghost use Rattle.hidreport_usages.specs.Names.{name_of_number, name_on, page_nam
 ghost use Rattle.hidreport_usages.specs.Naming.{IsOnlyNamed};
 ghost use Rattle.hidreport_usages.specs.Rows.{IsFirstNamed};
 
-use crate::answer::write_bytes;
+use crate::answer::write_list;
 use crate::status::OUT_OF_MEMORY;
 use crate::structs::{HidreportAnswer, HidreportPage, HidreportUsage};
 use hidreport::{Usage, UsagePage};
@@ -49,7 +49,7 @@ pub(crate) fn write_text(made: Result<String, AllocError>, text: &mut [u8]) -> H
         (λ _. (result ≡ no_memory) × (text.new ≡ text.old)) }
 {
     match made {
-        Ok(made) => write_bytes(made.as_bytes(), text),
+        Ok(made) => write_list(made.as_bytes(), text),
         Err(_) => HidreportAnswer::refused(OUT_OF_MEMORY),
     }
 }

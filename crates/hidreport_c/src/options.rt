@@ -23,12 +23,14 @@ pub(crate) enum Reading {
 }
 
 impl Reading {
-    ghost use Rattle.hidreport_lists.specs.Answer.{Answers};
+    ghost use Rattle.hidreport.specs.Groups.{listed};
+    ghost use Rattle.hidreport_lists.specs.Answer.{Answers, AnswersBy};
     ghost use Rattle.hidreport_c.specs.Options.{outline_by, read_by};
 
     /// The descriptor that bytes are, its fields in groups.
     pub(crate) fn outline(self, alloc: Global, bytes: &[u8]) -> Result<Outline, ParserError>
         ensures exact { Answers result (outline_by self bytes.now) }
+        ensures listed { AnswersBy listed result (read_by self bytes.now) }
     {
         match self {
             Reading::By(options) => Outline::try_from_with(alloc, bytes, options),

@@ -1,6 +1,6 @@
 ghost use Rattle.hidreport_c.specs.Repair.{ListsOfRepair};
 
-use crate::answer::{refusal, write_bytes};
+use crate::answer::{refusal, write_list};
 use crate::status::UNKNOWN_OPTION;
 use crate::structs::{HidreportAnswer, HidreportOptions};
 use hidreport::repair;
@@ -28,7 +28,7 @@ pub extern "C" fn hidreport_repair(
         return HidreportAnswer::refused(UNKNOWN_OPTION);
     };
     match repair(alloc, descriptor, options) {
-        Ok(repaired) => write_bytes(&repaired.bytes, bytes),
+        Ok(repaired) => write_list(&repaired.bytes, bytes),
         Err(error) => refusal(&error),
     }
 }

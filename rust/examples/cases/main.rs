@@ -329,7 +329,7 @@ impl Asked {
                 }
             }
             "front-items" => {
-                let items = hidreport::c::front_items(&descriptor(2));
+                let items = hidreport::c::front_items(&descriptor(2)).expect("memory");
                 println!("  count {} offset 0 accepted", items.len());
                 for item in items.iter().take(room_of(words[1])) {
                     println!("  offset {} size {}", item.offset, item.size);

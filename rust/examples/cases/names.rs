@@ -32,11 +32,9 @@ pub fn ask(kind: &str, words: &[&str]) -> bool {
             let page = c::page_by_name(&name_of(words[0]));
             println!("  page {:04x} {}", page.unwrap_or(0), u8::from(page.is_some()));
         }
-        "item-name" => say(Ok(c::item_name(&bytes_of(&words.concat())))),
+        "item-name" => say(c::item_name(&bytes_of(&words.concat()))),
         "flag-words" => say(c::flag_words(&bytes_of(&words.concat()))),
-        "collection-name" => {
-            say(Ok(c::collection_name(words[0].parse().expect("a number"))));
-        }
+        "collection-name" => say(c::collection_name(words[0].parse().expect("a number"))),
         _ => return false,
     }
     true

@@ -36,11 +36,8 @@ pub fn page_by_name(name: &str) -> Option<u16> {
 }
 
 /// The standard's name of the item that these bytes begin with, no text where it can't be read.
-pub fn item_name(item: &[u8]) -> String {
-    let name = text_of(|text, room| unsafe {
-        sys::hidreport_item_name(item.as_ptr(), item.len(), text, room)
-    });
-    name.unwrap_or_default()
+pub fn item_name(item: &[u8]) -> Result<String, Status> {
+    text_of(|text, room| unsafe { sys::hidreport_item_name(item.as_ptr(), item.len(), text, room) })
 }
 
 /// The flags of the Input, Output or Feature that these bytes begin with, no text of another item.
@@ -51,9 +48,8 @@ pub fn flag_words(item: &[u8]) -> Result<String, Status> {
 }
 
 /// The standard's name of a kind of collection, no text for a number above 255.
-pub fn collection_name(kind: u32) -> String {
-    let name = text_of(|text, room| unsafe { sys::hidreport_collection_name(kind, text, room) });
-    name.unwrap_or_default()
+pub fn collection_name(kind: u32) -> Result<String, Status> {
+    text_of(|text, room| unsafe { sys::hidreport_collection_name(kind, text, room) })
 }
 
 #[cfg(test)]
@@ -66,9 +62,9 @@ mod tests {
         assert_eq!(usage_by_name("Mouse"), Some(0x0001_0002));
         assert_eq!(usage_on_page(0x09, "Button 5"), Some(0x0009_0005));
         assert_eq!(page_by_name("Generic Desktop"), Some(1));
-        assert_eq!(item_name(&[0x05, 0x01]), "Usage Page");
+        assert_eq!(item_name(&[0x05, 0x01]), Ok(String::from("Usage Page")));
         assert_eq!(flag_words(&[0x81, 0x02]), Ok(String::from("Data,Var,Abs,NoNull")));
-        assert_eq!(collection_name(1), "Application");
+        assert_eq!(collection_name(1), Ok(String::from("Application")));
         assert_eq!(usage_by_name("mouse"), None);
     }
 }

@@ -6,7 +6,8 @@ use Rattle.hidreport.specs.Fields.{Beginning, beginning_at, make_place, make_fie
 use Rattle.hidreport_fields.specs.ItemParts.{field_count}
 use Rattle.hidreport.specs.Fields.{usage_at}
 use Rattle.hidreport_fields.specs.ItemParts.{attributes_with}
-use Rattle.hidreport_fields.specs.Records.{Attributes, CollectionRecord, FieldRecord, VariableRecord}
+use Rattle.hidreport_fields.specs.Records.{Attributes, CollectionRecord, FieldPlace, FieldRecord}
+use Rattle.hidreport_fields.specs.Records.{VariableRecord}
 use Rattle.hidreport.specs.Usages.{UsageList}
 use Rattle.hidreport_fields.specs.declared.field.usage.Usage.{Usage}
 use Rattle.hidreport.specs.declared.parser.around.Around.{Around}
@@ -41,10 +42,13 @@ extent_of l = record { size = l.size; count = l.count }
 abbrev pub laid_out : Layout → UsageList → List FieldRecord
 laid_out l us = make_fields (beginning_of l) (extent_of l) l.item.flags us (shared_of l)
 
--- field number c of a variable item, with this usage
+-- where field number c of a variable item lies
+abbrev pub place_at : Layout → ℕ → FieldPlace
+place_at l c = make_place (beginning_at (beginning_of l) (extent_of l) c) l.size
+
+-- that field, with this usage
 abbrev pub variable_with : Layout → Usage → ℕ → FieldRecord
-variable_with l usage c = VariableRecord
-    (make_place (beginning_at (beginning_of l) (extent_of l) c) l.size) usage (shared_of l)
+variable_with l usage c = VariableRecord (place_at l c) usage (shared_of l)
 
 -- the same with its usage of these
 abbrev pub variable_of : Layout → UsageList → ℕ → FieldRecord

@@ -35,7 +35,7 @@ impl Layout {
     ghost use Rattle.hidreport_fields.specs.ItemParts.{field_count};
     ghost use Rattle.hidreport.specs.Parser.Groups.{group_by};
     ghost use Rattle.hidreport.specs.Usages.{UsageList};
-    ghost use Rattle.hidreport.specs.Parser.Layout.{IsPossible, beginning_of, laid_out, shared_list, shared_of, variable_of, variable_with};
+    ghost use Rattle.hidreport.specs.Parser.Layout.{IsPossible, beginning_of, laid_out, place_at, shared_list, shared_of, variable_of};
     ghost use Rattle.hidreport.specs.Parser.Usages.{usage_list};
     ghost use Rattle.hidreport_fields.specs.Records.{ArrayRecord, ConstantRecord};
     ghost use Rattle.hidreport_fields.specs.Views.{field_record, placed_at};
@@ -107,8 +107,9 @@ impl Layout {
         if !item.flags.is_variable {
             return Ok(Some(self.array_field(alloc, usages)?));
         }
+        let (measures, item) = (&self.measures, &self.item);
         let collections = self.shared_collections(alloc)?;
-        Ok(Some(self.variable_field(collections, usages.at(c), c)))
+        Ok(Some(make_variable(self.place_of(c), usages.at(c), measures, item, collections)))
     }
 
     /// The padding.
@@ -123,6 +124,7 @@ impl Layout {
 
     /// Adds the fields of a variable item, for which the room is asked at once. Of many spans its
     /// usages are listed first, as many as it has fields, since each field would go over the spans.
+    /// What the fields share is copied once: behind the reference it would be read for each.
     fn add_elements(
         &self,
         alloc: Global,
@@ -138,27 +140,28 @@ impl Layout {
         let found = usages.first_of_many(alloc, self.count.max(1))?;
         let listed = &found;
         let collections = self.shared_collections(alloc)?;
+        let (measures, item) = (self.measures, self.item);
         fields.reserve(self.count)?;
         for c in 0..self.count {
             let usage = usage_of(usages, listed, c);
-            fields.push_reserved(self.variable_field(collections.clone()?, usage, c));
+            let collections = collections.clone()?;
+            let field = make_variable(self.place_of(c), usage, &measures, &item, collections);
+            fields.push_reserved(field);
         }
         Ok(())
     }
 
-    /// Field number `c` of a variable item, in these collections and with this usage.
-    fn variable_field(&self, collections: ArcSlice<Collection>, usage: Usage, c: usize) -> Field
+    /// Where field number `c` of a variable item lies.
+    fn place_of(&self, c: usize) -> Place
         requires ids { self.now.first_id + c < 2 ^ 32 }
         requires bits { self.now.first_bit + self.now.size * (c + 1) < 2 ^ 64 }
-        requires collections { arc_slice_items collections ≡ shared_list self.now.collections }
-        ensures { field_record result ≡ variable_with self.now usage c }
+        ensures { placed_at result.id result.report_id result.bits ≡ place_at self.now c }
     {
-        let place = Place {
+        Place {
             id: numbered_field((self.first_id + c as u64) as u32),
             report_id: self.report_id,
             bits: self.bits(c),
-        };
-        make_variable(place, usage, &self.measures, &self.item, collections)
+        }
     }
 
     /// The field of an array item, which has all the usages.

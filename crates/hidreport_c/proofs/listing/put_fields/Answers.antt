@@ -1,4 +1,4 @@
-use Rattle.std.proofs.Common.{◌≡◌, length, ap, arith, take, refl}
+use Rattle.std.proofs.Common.{length, ap, arith, take, refl}
 use Rattle.std.specs.Prelude.{flat_map}
 use Rattle.hidreport.specs.Views.{field_record}
 use Rattle.hidreport_fields.specs.declared.field.Field.{Field}

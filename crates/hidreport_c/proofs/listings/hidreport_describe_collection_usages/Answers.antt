@@ -1,9 +1,20 @@
-use Rattle.hidreport_c.proofs.ListsLemmas.{lists-unread}
+use Rattle.std.proofs.Common.{sym}
+use Rattle.std.specs.Prelude.{flat_map}
+use Rattle.hidreport.specs.Records.{fields_in_all}
+use Rattle.hidreport_c.proofs.ListsLemmas.{lists-in, lists-unread}
+use Rattle.hidreport.specs.Records.{collections_of}
+use Rattle.hidreport_c.specs.Listings.{collection_numbers, described_collection_usages}
 use Rattle.hidreport_c.specs.Options.{reading_of}
-use Rattle.hidreport_c.specs.Listings.{described_collection_usages}
 use Rattle.hidreport_c.proofs.listings.hidreport_describe_collection_usages.Goals as goal
 
 pub returns-in-Err : goal.returns-in-Err
 returns-in-Err c =
     lists-unread c.in-Err.refused (reading_of c.args.options) c.args.descriptor.now
-    (described_collection_usages c.args.direction) c.args.usages.now c.in-Err.ensures
+    (described_collection_usages c.args.direction) c.args.usages.now c.in-Err.ensures.refused
+
+pub returns-in-Ok : goal.returns-in-Ok
+returns-in-Ok c =
+    lists-in c.args.direction c.in-Ok.reports.items (reading_of c.args.options)
+    c.args.descriptor.now (λ reports. flat_map (λ field. flat_map collection_numbers (collections_of field)) (fields_in_all reports))
+    c.args.usages.now c.write_all.new.array c.write_all.result c.in-Ok.ensures.read
+    (rw (sym c.deref.ensures.value) c.write_all.ensures)

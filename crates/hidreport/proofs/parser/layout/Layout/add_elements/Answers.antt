@@ -8,6 +8,7 @@ use Rattle.hidreport_fields.specs.Views.{field_record}
 use Rattle.hidreport_fields.specs.declared.field.Field.{Field}
 use Rattle.hidreport_fields.specs.declared.field.usage.Usage.{Usage}
 use Rattle.hidreport.proofs.FieldLemmas.{each_from-behind}
+use Rattle.hidreport.proofs.GroupLemmas.{made-variable}
 use Rattle.hidreport.proofs.HostUsageLemmas.{found-listed}
 use Rattle.hidreport.proofs.parser.layout.Layout.add_elements.Goals as goal
 
@@ -27,12 +28,15 @@ usage_of-usage-requires-clause-listed c =
 
 pub loop-c-preserved : goal.loop-c-preserved
 loop-c-preserved c =
-    let made = variable_of c.args.self.now (usage_list c.args.usages.now) in (
+    let l = c.args.self.now in
+    let of = variable_of l (usage_list c.args.usages.now) in
+    let made = made-variable l c.usage_of-usage.result c.loop-c.c _ _ _
+    c.make_variable-field.ensures c.place_of.ensures
+    (c.in_ok-collections-2.ensures.cases ∙ c.in_ok-collections.ensures) in (
       ap (map field_record) c.push_reserved.ensures.items
-          ∙ map-append field_record c.loop-c.fields.items (c.variable_field.result ∷ [])
-          ∙ each_from-behind made _ _ c.loop-c.c _ c.loop-c.invariant.0
-          (c.variable_field.ensures
-          ∙ ap (λ (u : Usage). variable_with c.args.self.now u c.loop-c.c) c.usage_of-usage.ensures),
+          ∙ map-append field_record c.loop-c.fields.items (c.make_variable-field.result ∷ [])
+          ∙ each_from-behind of _ _ c.loop-c.c _ c.loop-c.invariant.0
+          (made ∙ ap (λ (u : Usage). variable_with l u c.loop-c.c) c.usage_of-usage.ensures),
       omega (arith, c.push_reserved.ensures.len, c.loop-c.invariant.1),
       omega (arith, c.push_reserved.ensures.capacity, c.loop-c.invariant.2),
     )
