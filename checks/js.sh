@@ -82,7 +82,8 @@ fetch(other < 0 && got.length === lines.length
   ? `found/${lines.filter((line) => /^[a-z]/.test(line)).length}-alike` : `found/another-answer-${other + 1}`);
 </script>
 END_OF_PAGE
-    python3 -u -m http.server 0 --bind 127.0.0.1 --directory "$scratch" > "$scratch/served" 2>&1 &
+    : > "$scratch/served"
+    python3 -u -m http.server 0 --bind 127.0.0.1 --directory "$scratch" >> "$scratch/served" 2>&1 &
     server=$!
     for ((turn = 0; turn < 200; turn++)); do
         ! grep -q ' port ' "$scratch/served" || break
