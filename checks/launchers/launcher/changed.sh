@@ -70,7 +70,7 @@ echo >> "$main"
 : > "$scratch/calls"
 PATH=$path "$copy/hidreport" 0 > "$scratch/first" 2>&1 &
 await '^try' "$scratch/calls"
-(sleep 3 && rm "$scratch/slow") &
+{ (await 'waiting for it' "$scratch/errors") || true; rm "$scratch/slow"; } &
 call 4
 wait
 shows 'a call beside a build' 4 'tried: <4>' 0 2
