@@ -35,7 +35,7 @@ E: TIME 1 05' ] || {
 { echo 05; sleep 1.2; echo 06; } | "$program" record --times "$top/crates/hid/data/axis.bytes" - 2> /dev/null |
     awk '
         $2 !~ /^[0-9][0-9][0-9][0-9][0-9][0-9]\.[0-9][0-9][0-9][0-9][0-9][0-9]$/ { is_odd = 1 }
-        { is_odd = is_odd || $1 != NR || $3 != "X=" (NR + 4) || $2 < (NR == 1 ? 0 : 1.15) || $2 > 60 }
+        { is_odd = is_odd || $1 != NR || $3 != "X=" (NR + 4) || $2 < (NR == 1 ? 0 : 0.6) || $2 > 60 }
         END { exit is_odd || NR != 2 }' || {
     echo 'hid_texts: the times of a stream are other than those at which its lines came' >&2
     exit 1
