@@ -1,6 +1,7 @@
 /* How much longer each function takes over 64 times the bytes: descriptors of 1 and of 64 KB of
  * one shape, with the default limit, and as hosts read them without one. checks/c/growth.sh runs this.
  * It prints what grows faster than the bytes to the power of 1.3, and how many pairs of times it looked at. */
+#define _POSIX_C_SOURCE 199309L
 #include <math.h>
 #include <stdio.h>
 #include <stdlib.h>
@@ -127,24 +128,30 @@ static const struct {
 
 #define CALLS (sizeof calls / sizeof *calls - 1)
 
-static double seconds_of(void (*ask)(void), unsigned times)
+/* What no call finds again: who goes over all of it leaves nothing else in the near caches. */
+static uint8_t elsewhere[8 << 20];
+
+static double now(void)
 {
-    clock_t begun = clock();
-    for (unsigned i = 0; i < times; i++)
-        ask();
-    return (double)(clock() - begun) / CLOCKS_PER_SEC / times;
+    struct timespec time;
+    clock_gettime(CLOCK_PROCESS_CPUTIME_ID, &time);
+    return (double)time.tv_sec + (double)time.tv_nsec * 1e-9;
 }
 
-/* The least time of a few, each of two milliseconds or more. */
+/* The least time of a few calls, before each of which the caches are emptied: what a long call writes
+ * doesn't stay in them either, so without that it would seem to grow where memory is slow. */
 static double time_of(void (*ask)(void), const uint8_t *bytes, size_t length)
 {
+    double least = 0;
     descriptor = bytes, descriptor_length = length;
-    double least = seconds_of(ask, 1);
-    unsigned times = least > 0.002 ? 1 : (unsigned)(0.002 / (least + 1e-6)) + 1;
-    for (int i = 0; i < 3; i++) {
-        double again = seconds_of(ask, times);
-        if (i == 0 || again < least)
-            least = again;
+    for (int i = 0; i < 4; i++) {
+        for (size_t at = 0; at < sizeof elsewhere; at += 64)
+            elsewhere[at]++;
+        double begun = now();
+        ask();
+        double own = now() - begun;
+        if (i == 0 || own < least)
+            least = own;
     }
     return least;
 }
