@@ -1,19 +1,17 @@
 //! The input devices of a descriptor, by the driver that takes it.
 mod beside;
+mod others;
 mod touching;
 
-use crate::driven_event::{DrivenEvent, Giver};
-use crate::driven_item::{DrivenItem, TouchItem};
+use crate::driven_event::DrivenEvent;
+use crate::driven_item::DrivenItem;
 use crate::silent::Silent;
 use crate::touch_class::TouchClass;
 use crate::touch_facts::TouchFacts;
 use crate::touched::{TouchApplication, Touched};
 use hidreport::{Direction, Group, Usage};
-use hidreport_linux::{Driver, InputDevices, Item, LinuxField, LinuxReading, Unmapped, Wanted};
+use hidreport_linux::{Driver, InputDevices, LinuxField, LinuxReading};
 use std::alloc::{AllocError, Global};
-
-/// The usage of a stylus.
-const STYLUS: u32 = 0x000d_0020;
 
 /// The application by which hid-input knows the first device of a device that hid-multitouch takes.
 const FIRST_NAME: u32 = 0xffff_0000;
@@ -46,6 +44,10 @@ pub struct DrivenDevices {
 }
 
 impl DrivenDevices {
+    ghost use Rattle.std.specs.Prelude.{◌≡◌};
+    ghost use Rattle.hidreport.specs.UsageNumber.{usage_number};
+    ghost use Rattle.hidreport_multitouch.specs.Driven.{class_of, driven_answer, inputs_at, is_by_id};
+
     /// Before the first field of a descriptor.
     ///
     /// # Errors
@@ -154,12 +156,16 @@ impl DrivenDevices {
     ///
     /// - `Unmapped`: what hid-input says of it, or the descriptor.
     /// - `Application`, `Ignored`, `Read`: what hid-multitouch says.
-    pub fn event(&mut self, item: &mut DrivenItem, usage: Usage) -> Result<DrivenEvent, Silent> {
+    pub fn event(&mut self, item: &mut DrivenItem, usage: Usage) -> Result<DrivenEvent, Silent>
+        ensures { result ≡ driven_answer self.old item.old (usage_number usage) }
+    {
         self.event_of(item, u32::from(usage))
     }
 
     /// The same of a usage by its number.
-    fn event_of(&mut self, item: &mut DrivenItem, usage: u32) -> Result<DrivenEvent, Silent> {
+    fn event_of(&mut self, item: &mut DrivenItem, usage: u32) -> Result<DrivenEvent, Silent>
+        ensures { result ≡ driven_answer self.old item.old usage }
+    {
         let Some(touch) = item.touch else {
             return self.hid_input_event(&mut item.item, usage);
         };
@@ -176,60 +182,10 @@ impl DrivenDevices {
         }
     }
 
-    /// What hid-input gives a usage.
-    fn hid_input_event(&mut self, item: &mut Item, usage: u32) -> Result<DrivenEvent, Silent> {
-        let (index, is_by_id, current) = (self.current_inputs(), self.is_by_id(), self.current);
-        let Some(inputs) = self.inputs.get_mut(index) else {
-            return Err(Silent::Unmapped(Unmapped::NoInput));
-        };
-        match inputs.event(item, Usage::from(usage)) {
-            Ok(event) if is_by_id => Ok(DrivenEvent::of(event, current)),
-            Ok(event) => Ok(DrivenEvent::of(event, event.device)),
-            Err(reason) => Err(Silent::Unmapped(reason)),
-        }
-    }
-
-    /// The same in a report that isn't a touch report: where hid-multitouch has registered the code
-    /// for the same device, only a shared one. The device of a stylus is named by it.
-    fn other_event(
-        &mut self,
-        item: &mut Item,
-        touch: &TouchItem,
-        usage: u32,
-    ) -> Result<DrivenEvent, Silent> {
-        if touch.place.physical == STYLUS {
-            if let Some(name) = self.names.get_mut(self.current) {
-                *name = STYLUS;
-            }
-        }
-        let event = self.hid_input_event(item, usage)?;
-        let is_there = match self.touched.get(event.device) {
-            Some(touched) => touched.has(event.code),
-            None => false,
-        };
-        if is_there && !is_shared(usage, touch) {
-            return Err(Silent::Unmapped(Unmapped::Taken));
-        }
-        self.note_claims(&event);
-        Ok(event)
-    }
-
-    /// Keeps the codes of a usage that hid-input gives its code.
-    fn note_claims(&mut self, event: &DrivenEvent) {
-        let axis = self.axis(event);
-        let Some(touched) = self.touched.get_mut(event.device) else {
-            return;
-        };
-        touched.register(event.code, axis);
-        if let Giver::HidInput(role) = event.giver {
-            for code in role.beside() {
-                touched.register(*code, axis);
-            }
-        }
-    }
-
     /// How hid-multitouch takes the device.
-    fn class(&self) -> TouchClass {
+    fn class(&self) -> TouchClass
+        ensures { result ≡ class_of self.now.facts }
+    {
         match &self.facts {
             Some(facts) => facts.class(),
             None => TouchClass::Windows8,
@@ -237,12 +193,16 @@ impl DrivenDevices {
     }
 
     /// Whether each report id has its input device.
-    fn is_by_id(&self) -> bool {
+    fn is_by_id(&self) -> bool
+        ensures { result ≡ is_by_id self.now }
+    {
         !self.class().is_windows_8()
     }
 
     /// Where the input devices of hid-input are that the report goes to.
-    fn current_inputs(&self) -> usize {
+    fn current_inputs(&self) -> usize
+        ensures { result ≡ inputs_at self.now }
+    {
         if self.is_by_id() { self.current } else { 0 }
     }
 
@@ -297,13 +257,5 @@ fn first_inputs(alloc: Global, reading: &LinuxReading) -> InputDevices {
     match reading.driver() {
         Some(Driver::SensorHub) => InputDevices::new(alloc, 1, reading.unmapped()),
         _ => reading.input_devices(alloc),
-    }
-}
-
-/// Whether the code that hid-input gives a usage is one that several may have.
-fn is_shared(usage: u32, touch: &TouchItem) -> bool {
-    match Wanted::of(usage, &touch.place) {
-        Ok(wanted) => wanted.is_shared,
-        Err(_) => false,
     }
 }

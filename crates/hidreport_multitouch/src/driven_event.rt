@@ -30,8 +30,15 @@ pub(crate) enum Giver {
 }
 
 impl DrivenEvent {
+    ghost use Rattle.std.specs.Prelude.{◌≡◌};
+    ghost use Rattle.hidreport_multitouch.specs.declared.driven_event.Giver.TheVariants as by;
+
     /// One of an input device, as hid-input gives it.
-    pub(crate) fn of(event: Event, device: usize) -> DrivenEvent {
+    pub(crate) fn of(event: Event, device: usize) -> DrivenEvent
+        ensures code { result.code ≡ event.code }
+        ensures device { result.device ≡ device }
+        ensures giver { result.giver ≡ by.HidInput event.role }
+    {
         DrivenEvent {
             code: event.code,
             device,
@@ -40,7 +47,11 @@ impl DrivenEvent {
     }
 
     /// The same event of the input device that hid-input has at an index.
-    pub(crate) fn as_of_hid_input(&self, role: Role, device: usize) -> Event {
+    pub(crate) fn as_of_hid_input(&self, role: Role, device: usize) -> Event
+        ensures code { result.code ≡ self.now.code }
+        ensures role { result.role ≡ role }
+        ensures device { result.device ≡ device }
+    {
         Event {
             code: self.code,
             role,

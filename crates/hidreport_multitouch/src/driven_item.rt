@@ -33,6 +33,9 @@ pub(crate) struct TouchItem {
 }
 
 impl TouchItem {
+    ghost use Rattle.std.specs.Prelude.{◌≡◌};
+    ghost use Rattle.hidreport_multitouch.specs.Driven.{unasked};
+
     /// A field before its first usage.
     pub(crate) fn at(field: &LinuxField, application: Option<usize>) -> TouchItem {
         TouchItem {
@@ -54,7 +57,9 @@ impl TouchItem {
     }
 
     /// Why a usage isn't asked of the driver, if it isn't.
-    pub(crate) fn unasked(&self, usage: u32) -> Option<Unmapped> {
+    pub(crate) fn unasked(&self, usage: u32) -> Option<Unmapped>
+        ensures { result ≡ unasked self.now usage }
+    {
         if self.is_past {
             return Some(Unmapped::PastItems);
         }

@@ -1,6 +1,8 @@
 //! What hid-multitouch asks of a descriptor before its usages.
-ghost use Rattle.std.specs.Prelude.{◌≡◌};
-ghost use Rattle.hidreport_multitouch.specs.Facts.{slots_of, slots_or};
+ghost use Rattle.std.specs.Prelude.{◌≡◌, IfOk};
+ghost use Rattle.hidreport_linux.specs.CoreReports.{first_place};
+ghost use Rattle.hidreport_linux.specs.declared.linux_field.LinuxReport.{LinuxReport};
+ghost use Rattle.hidreport_multitouch.specs.Facts.{class_in, has_contact, has_signature, is_among, is_feature, is_of_contact, is_same, is_signature, names, says_slots, slots_in, slots_of, slots_or};
 
 use crate::touch_class::TouchClass;
 use hidreport::Direction;
@@ -32,6 +34,10 @@ pub struct TouchFacts {
 }
 
 impl TouchFacts {
+    ghost use Rattle.std.specs.Prelude.{◌≡◌, IfOk};
+    ghost use Rattle.hidreport_linux.specs.declared.linux_field.LinuxReport.{LinuxReport};
+    ghost use Rattle.hidreport_multitouch.specs.Facts.{class_in, has_contact, is_among, slots_in};
+
     /// Those of a descriptor, with its fields in order.
     ///
     /// # Errors
@@ -41,51 +47,67 @@ impl TouchFacts {
         alloc: Global,
         reading: &LinuxReading,
         fields: &[LinuxField],
-    ) -> Result<TouchFacts, AllocError> {
+    ) -> Result<TouchFacts, AllocError>
+        ensures class { IfOk result (λ facts. facts.class ≡ class_in reading.now fields.now) }
+        ensures slots { IfOk result (λ facts. facts.slots ≡ slots_in reading.now fields.now) }
+        ensures reports { IfOk result (λ facts. (report : LinuxReport)
+            → is_among report facts.reports.items
+            ≡ has_contact (class_in reading.now fields.now) reading.now report fields.now) }
+    {
         let class = class_of(reading, fields);
-        let mut facts = TouchFacts {
+        Ok(TouchFacts {
             class,
             slots: slots_in(reading, fields),
-            reports: Vec::new(alloc),
-        };
-        for field in fields {
-            if is_of_contact(reading, field, class) && !facts.is_touch_report(&field.report) {
-                facts.reports.push(field.report)?;
-            }
-        }
-        Ok(facts)
+            reports: touch_reports(alloc, reading, fields, class)?,
+        })
     }
 
     /// How the device is taken.
-    pub fn class(&self) -> TouchClass {
+    pub fn class(&self) -> TouchClass
+        ensures { result ≡ self.now.class }
+    {
         self.class
     }
 
     /// How many contacts an input device with touch reports tells apart, where the device doesn't
     /// say it: from 1 on.
-    pub fn slots(&self) -> u8 {
+    pub fn slots(&self) -> u8
+        ensures { result ≡ self.now.slots }
+    {
         self.slots
     }
 
     /// Whether a report is one whose usages have the codes of contacts.
-    pub fn is_touch_report(&self, report: &LinuxReport) -> bool {
-        self.reports.iter().any(|one| one == report)
+    pub fn is_touch_report(&self, report: &LinuxReport) -> bool
+        ensures { result ≡ is_among report.now self.now.reports.items }
+    {
+        is_among(report, &self.reports)
     }
 }
 
 /// How a device is taken.
-fn class_of(reading: &LinuxReading, fields: &[LinuxField]) -> TouchClass {
-    for field in fields {
-        if is_signature(reading, field) {
-            return TouchClass::Windows8;
-        }
+fn class_of(reading: &LinuxReading, fields: &[LinuxField]) -> TouchClass
+    ensures { result ≡ class_in reading.now fields.now }
+{
+    if has_signature(reading, fields) {
+        TouchClass::Windows8
+    } else {
+        TouchClass::Plain
     }
-    TouchClass::Plain
+}
+
+/// Whether one of the fields says that the device is made for Windows 8.
+fn has_signature(reading: &LinuxReading, fields: &[LinuxField]) -> bool
+    ensures { result ≡ has_signature reading.now fields.now }
+{
+    fields.iter().any(|field| is_signature(reading, field))
 }
 
 /// Whether a field says that the device is made for Windows 8.
-fn is_signature(reading: &LinuxReading, field: &LinuxField) -> bool {
-    if !matches!(field.report.direction, Direction::Feature) || field.size != 8 {
+fn is_signature(reading: &LinuxReading, field: &LinuxField) -> bool
+    ensures { result ≡ is_signature reading.now field.now }
+{
+    if !is_feature(field) || field.size != 8 {
         return false;
     }
     match field.count {
@@ -95,15 +117,29 @@ fn is_signature(reading: &LinuxReading, field: &LinuxField) -> bool {
     }
 }
 
+/// Whether a field is of a feature report.
+fn is_feature(field: &LinuxField) -> bool
+    ensures { result ≡ is_feature field.now.report.direction }
+{
+    matches!(field.report.direction, Direction::Feature)
+}
+
 /// How many slots a device has, by the last item that says it.
-fn slots_in(reading: &LinuxReading, fields: &[LinuxField]) -> u8 {
+fn slots_in(reading: &LinuxReading, fields: &[LinuxField]) -> u8
+    ensures { result ≡ slots_in reading.now fields.now }
+{
     let mut slots = slots_of(0);
     for field in fields {
-        let is_kept = matches!(field.report.direction, Direction::Feature) && !field.is_past;
-        let says_it = is_kept && names(reading, field, CONTACT_MAXIMUM, MOST_USAGES);
-        slots = slots_or(slots, says_it, field.measures.maximum);
+        slots = slots_or(slots, says_slots(reading, field), field.measures.maximum);
     }
     slots
+}
+
+/// Whether an item says how many slots a device has.
+fn says_slots(reading: &LinuxReading, field: &LinuxField) -> bool
+    ensures { result ≡ says_slots reading.now field.now }
+{
+    is_feature(field) && !field.is_past && names(reading, field, CONTACT_MAXIMUM, MOST_USAGES)
 }
 
 /// The slots by an item of this maximum, if it says it.
@@ -123,9 +159,55 @@ fn slots_of(maximum: i32) -> u8
     if maximum > 250 || low == 0 { 10 } else { low }
 }
 
+/// The reports with a field for a contact, each once.
+fn touch_reports(
+    alloc: Global,
+    reading: &LinuxReading,
+    fields: &[LinuxField],
+    class: TouchClass,
+) -> Result<Vec<LinuxReport>, AllocError>
+    ensures { IfOk result (λ list. (report : LinuxReport) → is_among report list.items
+        ≡ has_contact class reading.now report fields.now) }
+{
+    let mut list = Vec::new(alloc);
+    for field in fields {
+        if is_of_contact(reading, field, class) && !is_among(&field.report, &list) {
+            list.push(field.report)?;
+        }
+    }
+    Ok(list)
+}
+
+/// Whether a report is one of these.
+fn is_among(report: &LinuxReport, reports: &[LinuxReport]) -> bool
+    ensures { result ≡ is_among report.now reports.now }
+{
+    reports.iter().any(|one| is_same(report, one))
+}
+
+/// Whether two are the same report: a direction has one of each id.
+fn is_same(one: &LinuxReport, other: &LinuxReport) -> bool
+    ensures { result ≡ is_same one.now other.now }
+{
+    one.id == other.id && place_of(one.direction) == place_of(other.direction)
+}
+
+/// A number for each direction.
+fn place_of(direction: Direction) -> u16
+    ensures { result ≡ first_place direction }
+{
+    match direction {
+        Direction::Input => 0,
+        Direction::Output => 256,
+        Direction::Feature => 512,
+    }
+}
+
 /// Whether a field makes its report a touch report: it has an element for a Contact Identifier, of a
 /// finger where the device is made for Windows 8.
-fn is_of_contact(reading: &LinuxReading, field: &LinuxField, class: TouchClass) -> bool {
+fn is_of_contact(reading: &LinuxReading, field: &LinuxField, class: TouchClass) -> bool
+    ensures { result ≡ is_of_contact class reading.now field.now }
+{
     if !field.is_variable || field.is_past {
         return false;
     }
@@ -137,16 +219,18 @@ fn is_of_contact(reading: &LinuxReading, field: &LinuxField, class: TouchClass) 
 }
 
 /// Whether a field names a usage among its first ones.
-fn names(reading: &LinuxReading, field: &LinuxField, wanted: u32, most: usize) -> bool {
-    let mut index: usize = 0;
+fn names(reading: &LinuxReading, field: &LinuxField, wanted: u32, most: usize) -> bool
+    ensures { result ≡ names wanted most field.now reading.now }
+{
+    let mut left = most;
     for usage in reading.usages(field) {
-        if index >= most {
+        if left == 0 {
             return false;
         }
         if u32::from(usage) == wanted {
             return true;
         }
-        index = index.saturating_add(1);
+        left -= 1;
     }
     false
 }

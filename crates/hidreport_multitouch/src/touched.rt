@@ -1,4 +1,7 @@
 //! What hid-multitouch registers.
+ghost use Rattle.std.specs.Prelude.{◌≡◌, slice_index_or, slice_set, Bool, true, false};
+ghost use Rattle.hidreport_multitouch.specs.Touched.{axis_of, has_code, place_of_other, with_code};
+
 use hidreport_linux::{Axis, EventCode, EventType};
 
 /// How many keys and axes there are, and how many other codes.
@@ -19,6 +22,9 @@ pub(crate) struct Touched {
 }
 
 impl Touched {
+    ghost use Rattle.std.specs.Prelude.{◌≡◌};
+    ghost use Rattle.hidreport_multitouch.specs.Touched.{axis_of, has_code, with_code};
+
     /// Nothing.
     pub(crate) fn new() -> Touched {
         Touched {
@@ -29,13 +35,15 @@ impl Touched {
     }
 
     /// Registers a code, whose axis says so of itself, if it is one.
-    pub(crate) fn register(&mut self, code: EventCode, axis: Option<Axis>) {
+    pub(crate) fn register(&mut self, code: EventCode, axis: Option<Axis>)
+        ensures { self.new ≡ with_code code axis self.old }
+    {
         let place = usize::from(code.number);
         match code.event_type {
             EventType::Key => set(&mut self.keys, place),
             EventType::Absolute => {
-                if let Some(before) = self.axes.get_mut(place) {
-                    *before = axis;
+                if place < AXES {
+                    self.axes[place] = axis;
                 }
             }
             EventType::Relative | EventType::Other | EventType::Led => {
@@ -45,7 +53,9 @@ impl Touched {
     }
 
     /// Whether a code is registered.
-    pub(crate) fn has(&self, code: EventCode) -> bool {
+    pub(crate) fn has(&self, code: EventCode) -> bool
+        ensures { result ≡ has_code self.now code }
+    {
         let place = usize::from(code.number);
         match code.event_type {
             EventType::Key => is_set(&self.keys, place),
@@ -57,13 +67,17 @@ impl Touched {
     }
 
     /// What the axis of a number says of itself, if it is registered.
-    pub(crate) fn axis(&self, number: u16) -> Option<Axis> {
+    pub(crate) fn axis(&self, number: u16) -> Option<Axis>
+        ensures { result ≡ axis_of self.now number }
+    {
         self.axes.get(usize::from(number)).copied().flatten()
     }
 }
 
 /// Where a code stands that is neither a key nor an axis; past all others where there is none.
-fn place_of_other(code: EventCode) -> usize {
+fn place_of_other(code: EventCode) -> usize
+    ensures { result ≡ place_of_other code }
+{
     let place = usize::from(code.number);
     match code.event_type {
         EventType::Relative if place < 16 => place,
@@ -73,13 +87,17 @@ fn place_of_other(code: EventCode) -> usize {
     }
 }
 
-fn set(codes: &mut [bool], place: usize) {
-    if let Some(code) = codes.get_mut(place) {
-        *code = true;
+fn set(codes: &mut [bool], place: usize)
+    ensures { codes.new ≡ slice_set codes.old place true }
+{
+    if place < codes.len() {
+        codes[place] = true;
     }
 }
 
-fn is_set(codes: &[bool], place: usize) -> bool {
+fn is_set(codes: &[bool], place: usize) -> bool
+    ensures { result ≡ slice_index_or codes.now place false }
+{
     codes.get(place).copied().unwrap_or(false)
 }
 

@@ -20,6 +20,11 @@ const TOUCH_SCREEN: u32 = 0x000d_0004;
 const TOUCH_PAD: u32 = 0x000d_0005;
 
 impl DrivenDevices {
+    ghost use Rattle.std.specs.Prelude.{◌≡◌, ◌==◌, slice_get};
+    ghost use Rattle.hidreport_linux.specs.Events.{wanted};
+    ghost use Rattle.hidreport_multitouch.specs.Driven.{class_of, has_palms, left_by, tells_palms, touched_answer};
+    ghost use Rattle.hidreport_multitouch.specs.declared.driven_event.Giver.TheVariants as by;
+
     /// A field as hid-multitouch takes it, before its first usage; `None` where it doesn't take the
     /// device.
     pub(super) fn touch_item(
@@ -64,7 +69,9 @@ impl DrivenDevices {
         item: &TouchItem,
         application: usize,
         usage: u32,
-    ) -> Result<DrivenEvent, Silent> {
+    ) -> Result<DrivenEvent, Silent>
+        ensures { result ≡ touched_answer self.old item.now application usage }
+    {
         let place = TouchPlace {
             class: self.class(),
             application: item.place.application,
@@ -85,7 +92,11 @@ impl DrivenDevices {
     }
 
     /// What a usage says of its report's application; whether Confidence tells palms there.
-    fn note_usage(&mut self, item: &TouchItem, application: usize, usage: u32) -> bool {
+    fn note_usage(&mut self, item: &TouchItem, application: usize, usage: u32) -> bool
+        ensures palms { result ≡ has_palms (slice_get self.old.applications.items application)
+            (tells_palms (class_of self.old.facts) item.now.place.application usage) }
+        ensures current { self.new.current ≡ self.old.current }
+    {
         let is_screen = item.place.application == TOUCH_SCREEN;
         let is_touch = is_screen || item.place.application == TOUCH_PAD;
         let tells = self.class().is_windows_8() && is_touch && usage == CONFIDENCE;
@@ -100,7 +111,11 @@ impl DrivenDevices {
     }
 
     /// Registers a code for a usage.
-    fn registered(&mut self, item: &TouchItem, code: EventCode) -> DrivenEvent {
+    fn registered(&mut self, item: &TouchItem, code: EventCode) -> DrivenEvent
+        ensures code { result.code ≡ code }
+        ensures device { result.device ≡ self.old.current }
+        ensures giver { result.giver ≡ by.Multitouch (item.now.place.application == 0x1000e) }
+    {
         let slots = self.slots();
         let axis = touch_axis(code, slots, &item.place, &item.measures);
         if let Some(touched) = self.touched.get_mut(self.current) {
@@ -124,7 +139,9 @@ impl DrivenDevices {
     }
 
     /// What hid-input would give a usage, which isn't registered for it.
-    fn left(&self, item: &TouchItem, usage: u32) -> Result<DrivenEvent, Silent> {
+    fn left(&self, item: &TouchItem, usage: u32) -> Result<DrivenEvent, Silent>
+        ensures { result ≡ left_by self.now (wanted usage item.now.place) }
+    {
         match Wanted::of(usage, &item.place) {
             Ok(wanted) => Ok(DrivenEvent {
                 code: wanted.code,

@@ -1,0 +1,2 @@
+pub mod DrivenLemmas
+pub mod FactLemmas
