@@ -160,5 +160,5 @@ taken_by None d item usage = hid_input_answer d item.item usage
 taken_by (Some t) d item usage = asked_by (unasked t usage) d item t usage
 
 -- the event of a usage, or why it has none
-abbrev pub driven_answer : DrivenDevices → DrivenItem → ℕ → Result DrivenEvent Silent
+unfoldable pub driven_answer : DrivenDevices → DrivenItem → ℕ → Result DrivenEvent Silent
 driven_answer d item usage = taken_by item.touch d item usage

@@ -58,7 +58,7 @@ settled_by (by.HidInput role) d event = Ok event
 settled_by (by.Multitouch is_dial) d event = Ok event
 
 -- a code that nothing registers is none
-abbrev pub settled : DrivenDevices → Result DrivenEvent Silent → Result DrivenEvent Silent
+unfoldable pub settled : DrivenDevices → Result DrivenEvent Silent → Result DrivenEvent Silent
 settled d (Ok event) = settled_by event.giver d event
 settled d (Err reason) = Err reason
 
@@ -117,7 +117,7 @@ axis_by (by.Multitouch is_dial) d event = own_axis d event
 axis_by by.Nobody d event = own_axis d event
 
 -- what the axis of an event says of itself; none of a code that is no axis
-abbrev pub axis_for : DrivenDevices → DrivenEvent → Option Axis
+unfoldable pub axis_for : DrivenDevices → DrivenEvent → Option Axis
 axis_for d event = axis_by event.giver d event
 
 abbrev pub has_azimuth : DrivenDevices → ℕ → Bool
@@ -149,5 +149,5 @@ beside_by (by.Multitouch is_dial) d event = beside_touch d event is_dial
 beside_by by.Nobody d event = []
 
 -- the codes that the usage of an event also has
-abbrev pub beside_for : DrivenDevices → DrivenEvent → List EventCode
+unfoldable pub beside_for : DrivenDevices → DrivenEvent → List EventCode
 beside_for d event = beside_by event.giver d event

@@ -163,6 +163,7 @@ impl DrivenDevices {
     }
 
     /// The same of a usage by its number.
+    #[tactic(auto, unfolding(crate::specs::Driven::driven_answer))]
     fn event_of(&mut self, item: &mut DrivenItem, usage: u32) -> Result<DrivenEvent, Silent>
         ensures { result ≡ driven_answer self.old item.old usage }
     {

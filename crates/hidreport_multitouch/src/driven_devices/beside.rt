@@ -51,6 +51,7 @@ impl DrivenDevices {
     ///
     /// - `Unregistered`: nothing registers it.
     /// - The reason of an answer that is one.
+    #[tactic(auto, unfolding(crate::specs::Settled::settled))]
     pub fn settled(&self, answer: Result<DrivenEvent, Silent>) -> Result<DrivenEvent, Silent>
         ensures { result ≡ settled self.now answer }
     {
@@ -84,6 +85,7 @@ impl DrivenDevices {
     }
 
     /// What the axis of an event says of itself; `None` of a code that is no axis.
+    #[tactic(auto, unfolding(crate::specs::Settled::axis_for))]
     pub fn axis(&self, event: &DrivenEvent) -> Option<Axis>
         ensures { result ≡ axis_for self.now event.now }
     {
@@ -146,6 +148,7 @@ impl DrivenDevices {
     /// The codes that the usage of an event also has: those of the pointer beside a position and a
     /// pressure, `ABS_MT_TRACKING_ID` beside a slot, and an orientation beside a height, where
     /// nothing else says it.
+    #[tactic(auto, unfolding(crate::specs::Settled::beside_for))]
     pub fn beside(&self, event: &DrivenEvent) -> &'static [EventCode]
         ensures { result.now ≡ beside_for self.now event.now }
     {
