@@ -129,7 +129,7 @@ static const struct {
 #define CALLS (sizeof calls / sizeof *calls - 1)
 
 /* What no call finds again: who goes over all of it leaves nothing else in the near caches. */
-static uint8_t elsewhere[8 << 20];
+static volatile uint8_t elsewhere[8 << 20];
 
 static double now(void)
 {
