@@ -274,15 +274,24 @@ def sum_of(plants):
 def build(folder, plants):
     """The program with all plants, where it isn't there."""
     os.makedirs(folder, exist_ok=True)
-    tree, kit, program = f"{folder}/crates_of_hid", f"{folder}/kit", f"{folder}/hid"
+    tree, program = f"{folder}/crates_of_hid", f"{folder}/hid"
     wanted = sum_of(plants)
     if os.access(program, os.X_OK) and os.path.exists(f"{folder}/sum") and text_of(f"{folder}/sum") == wanted:
         return program
+    shutil.rmtree(tree, ignore_errors=True)
+    copy_crates(tree, plants)
+    compile_program(folder, tree, program)
+    write(f"{folder}/sum", wanted)
+    return program
+
+
+def compile_program(folder, tree, program):
+    """The program of a tree with a switch, without a proof."""
+    kit = f"{folder}/kit"
     if os.path.exists(program):
         os.unlink(program)
-    for old in (tree, kit, f"{folder}/try"):
+    for old in (kit, f"{folder}/try"):
         shutil.rmtree(old, ignore_errors=True)
-    copy_crates(tree, plants)
     make_kit(kit, program)
     os.makedirs(f"{folder}/try/cases")
     write(f"{folder}/try/cases/1", "")
@@ -294,8 +303,6 @@ def build(folder, plants):
     write(f"{folder}/said", ran.stdout + ran.stderr)
     if not os.access(program, os.X_OK):
         sys.exit(f"plants: the program isn't built: {ran.stdout[-2000:]}{ran.stderr[-2000:]}")
-    write(f"{folder}/sum", wanted)
-    return program
 
 
 def first_run_otherwise(program):

@@ -196,30 +196,56 @@ SWITCH = """//! A switch.
 #![tactic(auto)]
 
 unsafe extern "C" {
-    safe fn switch_number() -> u32;
+    safe fn switch_is(number: u32) -> bool;
 }
 
 /// Whether it stands at this number.
 pub fn stands_at(number: u32) -> bool {
-    switch_number() == number
+    switch_is(number)
 }
 """
-SWITCH_C = """#include <stdlib.h>
+SWITCH_C = """#include <stdio.h>
+#include <stdlib.h>
 
-unsigned switch_number(void);
+enum { NUMBERS = 65536 };
 
-/* The number in the environment; 0 is none. */
-unsigned switch_number(void)
+_Bool switch_is(unsigned asked);
+
+static unsigned char is_asked[NUMBERS];
+static const char *trace;
+
+/* Appends the numbers that were asked for, as a line of the file that VARIABLE_TRACE names. */
+static void tell(void)
+{
+    FILE *file = fopen(trace, "a");
+
+    if (file == NULL)
+        return;
+    for (unsigned number = 0; number < NUMBERS; number++)
+        if (is_asked[number])
+            fprintf(file, "%u ", number);
+    fputs("\\n", file);
+    fclose(file);
+}
+
+/* Whether it is the number in the environment; 0 is none. */
+_Bool switch_is(unsigned asked)
 {
     static int is_known;
     static unsigned number;
 
     if (!is_known) {
         const char *word = getenv("VARIABLE");
+
         number = word == NULL ? 0 : (unsigned)atoi(word);
+        trace = getenv("VARIABLE_TRACE");
+        if (trace != NULL)
+            atexit(tell);
         is_known = 1;
     }
-    return number;
+    if (trace != NULL && asked < NUMBERS)
+        is_asked[asked] = 1;
+    return number != 0 && asked == number;
 }
 """
 CLANG = """#!/bin/bash

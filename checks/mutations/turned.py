@@ -256,14 +256,29 @@ class Asker:
         return self.cases_tell(number) or self.tests_tell(number)
 
 
-def listed_ways(only):
-    """What unturned.txt has of what has the word, each so often as it says, and what is wrong there."""
-    lines, faults = listed(LISTED)
+def listed_ways(path, only):
+    """What a list has of what has the word, each so often as it says, and what is wrong there."""
+    lines, faults = listed(path)
     own = collections.Counter()
     for line, times in lines.items():
         count, way = re.fullmatch(r"(?:(\d+) x )?(.*)", line).groups()
         own[way] += times * int(count or 1)
     return collections.Counter({it: n for it, n in own.items() if only in it}), faults
+
+
+def compared(script, path, only, asked, silent):
+    """What nothing tells is what a list has; what a script says of it, or its status 0."""
+    own, faults = listed_ways(path, only)
+    name = os.path.basename(path)
+    faults += [f"nothing tells {it}" for it in (silent - own).elements()]
+    faults += [f"{name} has what is noticed or isn't there: {it}" for it in (own - silent).elements()]
+    for fault in faults:
+        print(f"{script}: {fault}")
+    if faults:
+        return f"{script}: {len(faults)} faults"
+    told = asked - silent.total()
+    print(f"{script}: {told} of {asked} ways are noticed, {silent.total()} are listed with a reason")
+    return 0
 
 
 def main():
@@ -290,16 +305,7 @@ def main():
                     print(lines[number], flush=True)
     if words.write:
         return 0
-    own, faults = listed_ways(words.only)
-    faults += [f"nothing tells {it}" for it in (silent - own).elements()]
-    faults += [f"unturned.txt has what is noticed or isn't there: {it}" for it in (own - silent).elements()]
-    for fault in faults:
-        print(f"turned: {fault}")
-    if faults:
-        return f"turned: {len(faults)} faults"
-    told = len(chosen) - silent.total()
-    print(f"turned: {told} of {len(chosen)} ways are noticed, {silent.total()} are listed with a reason")
-    return 0
+    return compared("turned", LISTED, words.only, len(chosen), silent)
 
 
 if __name__ == "__main__":
