@@ -89,21 +89,35 @@ fn show_findings<R: AllocGlobal + Print>(
 ) -> Result<()> {
     let mut text = String::new(rt.alloc());
     if settings.is_json {
-        for finding in found.findings.iter() {
-            add_object(&mut text, finding)?;
-            flush_piece(rt, &mut text)?;
-        }
+        show_objects(rt, &mut text, &found.findings)?;
     } else {
-        let times = times_of(rt.alloc(), &found.findings)?;
-        for (finding, times) in found.findings.iter().zip(times.iter()) {
-            add_line(&mut text, finding, *times)?;
-            flush_piece(rt, &mut text)?;
-        }
+        show_lines(rt, &mut text, &found.findings)?;
     }
     if let Some(verdict) = found.verdict {
         add_verdict(&mut text, settings, verdict)?;
     }
     flush(rt, &mut text)
+}
+
+fn show_objects<R: Print>(rt: &R, text: &mut String, findings: &[Finding]) -> Result<()> {
+    for finding in findings {
+        add_object(text, finding)?;
+        flush_piece(rt, text)?;
+    }
+    Ok(())
+}
+
+fn show_lines<R: AllocGlobal + Print>(
+    rt: &R,
+    text: &mut String,
+    findings: &[Finding],
+) -> Result<()> {
+    let times = times_of(rt.alloc(), findings)?;
+    for (finding, times) in findings.iter().zip(times.iter()) {
+        add_line(text, finding, *times)?;
+        flush_piece(rt, text)?;
+    }
+    Ok(())
 }
 
 /// Appends the line of what Linux does with a descriptor.

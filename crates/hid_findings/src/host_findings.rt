@@ -79,39 +79,60 @@ fn tell_linux(
     bytes: &[u8],
     findings: &mut Vec<Finding>,
 ) -> Result<Verdict, AllocError> {
-    let alloc = *findings.allocator();
-    let reading = LinuxReading::of(alloc, bytes)?;
-    if let Some(doubt) = reading.doubt() {
-        let remark = format!(in alloc; "Linux may read it otherwise: {}", doubt.reason.text())?;
-        tell(findings, Some(doubt.offset), &remark, Rule::LinuxDoubt)?;
-    }
-    if let Some(refusal) = reading.refusal() {
-        let remark = format!(in alloc; "Linux refuses it: {}", refusal.reason.text())?;
-        tell(findings, Some(refusal.offset), &remark, Rule::LinuxRefuses)?;
+    if !tell_reading(bytes, findings)? {
         return Ok(Verdict::Refused);
     }
-    if let Some(omission) = reading.left_out() {
-        let remark = format!(in alloc; "Linux leaves out {}", omission.what.text())?;
-        tell(
-            findings,
-            Some(omission.offset),
-            &remark,
-            Rule::LinuxLeavesOut,
-        )?;
-    }
-    if let Some(offset) = reading.overflow() {
-        tell(findings, Some(offset), OVERFLOW, Rule::LinuxOverflow)?;
-    }
-    match mend(alloc, bytes, settings.repair()) {
-        Ok(mended) => {
-            for change in mended.changes.iter() {
-                tell_change(findings, change)?;
-            }
-            Ok(Verdict::Taken(mended.changes.len()))
-        }
+    match mend(*findings.allocator(), bytes, settings.repair()) {
+        Ok(mended) => tell_changes(findings, &mended.changes),
         Err(ParserError::OutOfMemory) => Err(AllocError),
         Err(_past_limit) => Ok(Verdict::Taken(0)),
     }
+}
+
+/// The same but for what hid-core mends; answers whether it takes the descriptor.
+fn tell_reading(bytes: &[u8], findings: &mut Vec<Finding>) -> Result<bool, AllocError> {
+    let reading = LinuxReading::of(*findings.allocator(), bytes)?;
+    tell_read(&reading, findings)?;
+    Ok(reading.refusal().is_none())
+}
+
+fn tell_read(reading: &LinuxReading, findings: &mut Vec<Finding>) -> Result<(), AllocError> {
+    if let Some(doubt) = reading.doubt() {
+        let words = ["Linux may read it otherwise: ", doubt.reason.text()];
+        tell_words(findings, doubt.offset, words, Rule::LinuxDoubt)?;
+    }
+    if let Some(refusal) = reading.refusal() {
+        let words = ["Linux refuses it: ", refusal.reason.text()];
+        return tell_words(findings, refusal.offset, words, Rule::LinuxRefuses);
+    }
+    if let Some(omission) = reading.left_out() {
+        let words = ["Linux leaves out ", omission.what.text()];
+        tell_words(findings, omission.offset, words, Rule::LinuxLeavesOut)?;
+    }
+    match reading.overflow() {
+        Some(offset) => tell(findings, Some(offset), OVERFLOW, Rule::LinuxOverflow),
+        None => Ok(()),
+    }
+}
+
+/// Notes what hid-core makes of an item, and why.
+fn tell_words(
+    findings: &mut Vec<Finding>,
+    offset: usize,
+    words: [&str; 2],
+    rule: Rule,
+) -> Result<(), AllocError> {
+    let [what, why] = words;
+    let remark = format!(in *findings.allocator(); "{what}{why}")?;
+    tell(findings, Some(offset), &remark, rule)
+}
+
+/// Notes each change, and answers how many there are.
+fn tell_changes(findings: &mut Vec<Finding>, changes: &[Change]) -> Result<Verdict, AllocError> {
+    for change in changes {
+        tell_change(findings, change)?;
+    }
+    Ok(Verdict::Taken(changes.len()))
 }
 
 /// Notes what Linux reads in the place of an item.

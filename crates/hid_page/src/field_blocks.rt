@@ -15,13 +15,37 @@ pub fn show_fields<R: AllocGlobal + Print>(
     sheet.begin("lines")?;
     let mut most = sheet.left_out.most.fields;
     for direction in Direction::ALL {
-        for report in descriptor.reports(direction) {
-            add_report_object(&mut sheet.lines, direction, report)?;
-            sheet.take(rt)?;
-            most = show_lines(rt, report, sheet, most)?;
-        }
+        let reports = descriptor.reports(direction);
+        most = show_reports(rt, direction, reports, sheet, most)?;
     }
     sheet.end()?;
+    show_all_objects(rt, descriptor, sheet)
+}
+
+/// Writes reports with the lines of their first fields, so many at most; answers how many fields may
+/// follow.
+fn show_reports<R: AllocGlobal + Print>(
+    rt: &R,
+    direction: Direction,
+    reports: &[RDescReport],
+    sheet: &mut Sheet,
+    most: usize,
+) -> Result<usize> {
+    let mut most = most;
+    for report in reports {
+        add_report_object(&mut sheet.lines, direction, report)?;
+        sheet.take(rt)?;
+        most = show_lines(rt, report, sheet, most)?;
+    }
+    Ok(most)
+}
+
+/// Writes the block of the first fields.
+fn show_all_objects<R: Print>(
+    rt: &R,
+    descriptor: &ReportDescriptor,
+    sheet: &mut Sheet,
+) -> Result<()> {
     sheet.begin("fields")?;
     let (mut most, mut count) = (sheet.left_out.most.fields, 0usize);
     for direction in Direction::ALL {

@@ -4,7 +4,6 @@ use crate::sheet::Sheet;
 use anyhow::Result;
 use hid_input::settings::Settings;
 use hid_items::item_lines::{ItemLines, ItemStyle};
-use hid_output::html::add_html;
 use hid_output::{add_json, flush_piece};
 use hidreport::{ParserError, PlacedOutline};
 use std::alloc::Global;
@@ -29,20 +28,15 @@ impl<'a> ItemBlocks<'a> {
     /// Writes the items in words.
     pub fn show_text<R: AllocGlobal + Print>(self, rt: &R, sheet: &mut Sheet) -> Result<()> {
         let mut lines = self.lines(rt.alloc(), ItemStyle::Words);
-        let mut text = String::new(rt.alloc());
         for _ in 0..sheet.left_out.most.items.min(self.bytes.len()) {
-            if !lines.add_next(&mut text)? {
+            if !add_words(rt, &mut lines, sheet)? {
                 break;
             }
-            add_html(&mut sheet.text, text.as_str())?;
-            text.clear();
-            flush_piece(rt, &mut sheet.text)?;
         }
         if lines.is_at_end() {
-            lines.end(&mut text)?;
-            add_html(&mut sheet.text, text.as_str())?;
+            lines.end(&mut sheet.lines)?;
         }
-        Ok(())
+        Ok(sheet.take_words()?)
     }
 
     /// Writes the block of the items.
@@ -50,19 +44,37 @@ impl<'a> ItemBlocks<'a> {
         sheet.begin("items")?;
         let mut lines = self.lines(rt.alloc(), ItemStyle::Json);
         for _ in 0..sheet.left_out.most.items.min(self.bytes.len()) {
-            if !lines.add_next(&mut sheet.lines)? {
+            if !add_objects(rt, &mut lines, sheet)? {
                 break;
             }
-            sheet.take(rt)?;
         }
         if lines.is_at_end() {
             lines.end(&mut sheet.lines)?;
-            sheet.take(rt)?;
         } else {
             sheet.left_out.bytes = self.bytes.len().saturating_sub(lines.offset());
         }
+        sheet.take(rt)?;
         Ok(sheet.end()?)
     }
+}
+
+/// Writes what is said of the next item in words; answers whether there was one.
+fn add_words<R: Print>(rt: &R, lines: &mut ItemLines, sheet: &mut Sheet) -> Result<bool> {
+    if !lines.add_next(&mut sheet.lines)? {
+        return Ok(false);
+    }
+    sheet.take_words()?;
+    flush_piece(rt, &mut sheet.text)?;
+    Ok(true)
+}
+
+/// The same as JSON.
+fn add_objects<R: Print>(rt: &R, lines: &mut ItemLines, sheet: &mut Sheet) -> Result<bool> {
+    if !lines.add_next(&mut sheet.lines)? {
+        return Ok(false);
+    }
+    sheet.take(rt)?;
+    Ok(true)
 }
 
 /// Writes the block of the bits that the first items make.
@@ -74,8 +86,15 @@ pub fn show_made_bits<R: AllocGlobal + Print>(
 ) -> Result<()> {
     sheet.begin("made")?;
     let placed = placed_outline(rt.alloc(), settings, bytes)?;
-    let made = made_bits(rt.alloc(), &placed, sheet.left_out.most.items)?;
-    for object in &made {
+    show_placed(rt, &placed, sheet)
+}
+
+fn show_placed<R: AllocGlobal + Print>(
+    rt: &R,
+    placed: &PlacedOutline,
+    sheet: &mut Sheet,
+) -> Result<()> {
+    for object in &made_bits(rt.alloc(), placed, sheet.left_out.most.items)? {
         add_json(&mut sheet.lines, object)?;
         sheet.take(rt)?;
     }

@@ -138,21 +138,35 @@ pub fn show_notes<R: AllocGlobal + Print + Eprint>(
 ) -> Result<()> {
     sheet.begin("notes")?;
     for note in given.notes.iter() {
-        let note = note.as_str();
-        add_json(&mut sheet.lines, &NoteObject { note })?;
+        add_note(sheet, note.as_str())?;
     }
-    sheet.take(rt)?;
     for (count, one, words) in sheet.left_out.counts() {
-        if count != 0 {
-            let words = if count == 1 { one } else { words };
-            let note = format!(in rt.alloc(); "{count} {words}")?;
-            let note = note.as_str();
-            add_json(&mut sheet.lines, &NoteObject { note })?;
-            if settings.has_notes() {
-                eprintln!(rt; "hid: {note}")?;
-            }
+        match count {
+            0 => {}
+            1 => show_count(rt, settings, sheet, count, one)?,
+            _ => show_count(rt, settings, sheet, count, words)?,
         }
     }
     sheet.take(rt)?;
     Ok(sheet.end()?)
+}
+
+fn add_note(sheet: &mut Sheet, note: &str) -> Result<()> {
+    add_json(&mut sheet.lines, &NoteObject { note })
+}
+
+/// Adds the note of so many, and says it.
+fn show_count<R: AllocGlobal + Eprint>(
+    rt: &R,
+    settings: &Settings,
+    sheet: &mut Sheet,
+    count: usize,
+    words: &str,
+) -> Result<()> {
+    let note = format!(in rt.alloc(); "{count} {words}")?;
+    add_note(sheet, note.as_str())?;
+    if settings.has_notes() {
+        eprintln!(rt; "hid: {note}")?;
+    }
+    Ok(())
 }

@@ -32,38 +32,56 @@ impl<'a> Page<'a> {
     /// Writes the page; a descriptor that can't be read is refused behind it.
     pub fn run<R: World>(&self, rt: &R, settings: &Settings) -> Result<Ending> {
         let mut given = descriptor_within(rt, settings, self.inputs.file)?;
+        self.show(rt, settings, &mut given)
+    }
+
+    /// Writes the page of what is given.
+    fn show<R: World>(&self, rt: &R, settings: &Settings, given: &mut Given) -> Result<Ending> {
         if settings.reads_as_linux() {
-            match linux_device(rt.alloc(), settings, given.descriptor()) {
-                Ok(device) => self.mend(rt, settings, &mut given, device)?,
-                Err(Unread::Refused(refusal)) => {
-                    let fault = fault_of(rt.alloc(), refusal)?;
-                    self.show_refused(rt, settings, &given, &fault)?;
-                    return Err(refused(rt.alloc(), settings, given.descriptor(), refusal));
-                }
-                Err(Unread::Fault(fault)) => return self.show_fault(rt, settings, &given, fault),
+            if let Some(unread) = self.read_by_linux(rt, settings, given)? {
+                return self.show_unread(rt, settings, given, unread);
+            }
+            if given.descriptor().is_empty() {
+                let none = ReportDescriptor::empty(rt.alloc());
+                return self.show_read(rt, settings, given, &none);
             }
         }
-        if settings.reads_as_linux() && given.descriptor().is_empty() {
-            let none = ReportDescriptor::empty(rt.alloc());
-            return self.show_read(rt, settings, &given, &none);
-        }
         match ReportDescriptor::try_from_with(rt.alloc(), given.descriptor(), settings.parse) {
-            Ok(descriptor) => self.show_read(rt, settings, &given, &descriptor),
-            Err(fault) => self.show_fault(rt, settings, &given, fault),
+            Ok(descriptor) => self.show_read(rt, settings, given, &descriptor),
+            Err(fault) => self.show_fault(rt, settings, given, fault),
         }
     }
 
-    /// Puts the descriptor that Linux reads in the place of the given one.
-    fn mend<R: AllocGlobal + Eprint>(
+    /// Puts the descriptor that Linux reads in the place of the given one; or says why it reads none.
+    fn read_by_linux<R: AllocGlobal + Eprint>(
         &self,
         rt: &R,
         settings: &Settings,
         given: &mut Given,
-        read: LinuxDevice,
+    ) -> Result<Option<Unread>> {
+        match linux_device(rt.alloc(), settings, given.descriptor()) {
+            Ok(device) => {
+                self.tell_mended(rt, settings, given, &device)?;
+                if let Some(own) = given.devices.first_mut() {
+                    own.descriptor = device.into_bytes();
+                }
+                Ok(None)
+            }
+            Err(unread) => Ok(Some(unread)),
+        }
+    }
+
+    /// Says what Linux mends, and where it may read otherwise.
+    fn tell_mended<R: AllocGlobal + Eprint>(
+        &self,
+        rt: &R,
+        settings: &Settings,
+        given: &mut Given,
+        read: &LinuxDevice,
     ) -> Result<()> {
         if settings.has_notes() {
-            tell_mended(rt, self.inputs.file, &read)?;
-            tell_doubt(rt, self.inputs.file, &read)?;
+            tell_mended(rt, self.inputs.file, read)?;
+            tell_doubt(rt, self.inputs.file, read)?;
         }
         let count = read.changes().len();
         if count > 0 {
@@ -71,10 +89,25 @@ impl<'a> Page<'a> {
             let note = format!(in rt.alloc(); "{count} {items} mended, as Linux reads it")?;
             given.notes.push(note)?;
         }
-        if let Some(device) = given.devices.first_mut() {
-            device.descriptor = read.into_bytes();
-        }
         Ok(())
+    }
+
+    /// Writes the page of a descriptor that Linux doesn't read, and refuses it.
+    fn show_unread<R: World>(
+        &self,
+        rt: &R,
+        settings: &Settings,
+        given: &Given,
+        unread: Unread,
+    ) -> Result<Ending> {
+        match unread {
+            Unread::Refused(refusal) => {
+                let fault = fault_of(rt.alloc(), refusal)?;
+                self.show_refused(rt, settings, given, &fault)?;
+                Err(refused(rt.alloc(), settings, given.descriptor(), refusal))
+            }
+            Unread::Fault(fault) => self.show_fault(rt, settings, given, fault),
+        }
     }
 
     /// Writes the page of a descriptor that can't be read, and refuses it.
@@ -114,10 +147,22 @@ impl<'a> Page<'a> {
         let mut sheet = self.sheet(rt.alloc());
         self.show_items(rt, settings, given, None, &mut sheet)?;
         show_made_bits(rt, settings, given.descriptor(), &mut sheet)?;
-        show_fields(rt, descriptor, &mut sheet)?;
-        self.show_streams(rt, given, &streams, descriptor, &mut sheet)?;
+        self.show_reports(rt, given, &streams, descriptor, &mut sheet)?;
+        self.end(rt, settings, given, sheet)
+    }
+
+    /// Writes the end of the page, and answers whether all reports are of the descriptor.
+    fn end<R: AllocGlobal + Print + Eprint>(
+        &self,
+        rt: &R,
+        settings: &Settings,
+        given: &Given,
+        sheet: Sheet,
+    ) -> Result<Ending> {
+        let mut sheet = sheet;
         show_notes(rt, settings, given, &mut sheet)?;
-        end(rt, &mut sheet)?;
+        sheet.text.push_str(AFTER_DATA)?;
+        flush(rt, &mut sheet.text)?;
         Ok(if sheet.left_out.unknown == 0 {
             Ending::Done
         } else {
@@ -135,12 +180,9 @@ impl<'a> Page<'a> {
     ) -> Result<()> {
         let mut sheet = self.sheet(rt.alloc());
         self.show_items(rt, settings, given, Some(fault), &mut sheet)?;
-        for id in ["made", "lines", "fields", "samples"] {
-            sheet.begin(id)?;
-            sheet.end()?;
-        }
-        show_notes(rt, settings, given, &mut sheet)?;
-        end(rt, &mut sheet)
+        sheet.add_empty(&["made", "lines", "fields", "samples"])?;
+        let _done = self.end(rt, settings, given, sheet)?;
+        Ok(())
     }
 
     /// Writes all that comes before the fields.
@@ -158,22 +200,51 @@ impl<'a> Page<'a> {
             bytes,
             fault,
         };
-        let file = self.inputs.file;
-        sheet.text.push_str(BEFORE_TITLE)?;
-        add_heading(&mut sheet.text, given, file)?;
-        sheet.text.push_str(BEFORE_HEADING)?;
-        add_heading(&mut sheet.text, given, file)?;
-        sheet.text.push_str(BEFORE_TEXT)?;
+        self.add_headings(given, &mut sheet.text)?;
         blocks.show_text(rt, sheet)?;
         sheet.text.push_str(BEFORE_DATA)?;
+        self.show_device(rt, settings, given, fault, sheet)?;
+        blocks.show_objects(rt, sheet)
+    }
+
+    /// Appends what the page begins with, whose title and heading are the device's.
+    fn add_headings(&self, given: &Given, text: &mut String) -> Result<(), AllocError> {
+        text.push_str(BEFORE_TITLE)?;
+        add_heading(text, given, self.inputs.file)?;
+        text.push_str(BEFORE_HEADING)?;
+        add_heading(text, given, self.inputs.file)?;
+        text.push_str(BEFORE_TEXT)
+    }
+
+    /// Writes the block of the device, and of why its descriptor is refused.
+    fn show_device<R: Print>(
+        &self,
+        rt: &R,
+        settings: &Settings,
+        given: &Given,
+        fault: Option<&ParserError>,
+        sheet: &mut Sheet,
+    ) -> Result<()> {
         sheet.begin("device")?;
-        add_device_object(&mut sheet.lines, settings, given, file)?;
+        add_device_object(&mut sheet.lines, settings, given, self.inputs.file)?;
         if let Some(fault) = fault {
             add_fault_object(&mut sheet.lines, fault)?;
         }
         sheet.take(rt)?;
-        sheet.end()?;
-        blocks.show_objects(rt, sheet)
+        Ok(sheet.end()?)
+    }
+
+    /// Writes the fields, and the reports of the inputs.
+    fn show_reports<R: AllocGlobal + Print>(
+        &self,
+        rt: &R,
+        given: &Given,
+        streams: &Streams,
+        descriptor: &ReportDescriptor,
+        sheet: &mut Sheet,
+    ) -> Result<()> {
+        show_fields(rt, descriptor, sheet)?;
+        self.show_streams(rt, given, streams, descriptor, sheet)
     }
 
     /// Writes the reports of the inputs that are named, or those beside the descriptor.
@@ -195,12 +266,6 @@ impl<'a> Page<'a> {
         }
         Ok(sheet.end()?)
     }
-}
-
-/// Writes the end of the page.
-fn end<R: Print>(rt: &R, sheet: &mut Sheet) -> Result<()> {
-    sheet.text.push_str(AFTER_DATA)?;
-    flush(rt, &mut sheet.text)
 }
 
 /// That Linux refuses a descriptor, as a fault of its item.

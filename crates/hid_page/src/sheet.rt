@@ -2,7 +2,7 @@
 use crate::left_out::{LeftOut, Most};
 use anyhow::Result;
 use hid_output::flush_piece;
-use hid_output::html::add_json_in_html;
+use hid_output::html::{add_html, add_json_in_html};
 use std::alloc::{AllocError, Global};
 use std::fmt::Write;
 
@@ -47,6 +47,22 @@ impl Sheet {
         self.is_empty = is_empty;
         self.lines.clear();
         flush_piece(rt, &mut self.text)
+    }
+
+    /// Takes the lines into the text, as words.
+    pub fn take_words(&mut self) -> Result<(), AllocError> {
+        add_html(&mut self.text, self.lines.as_str())?;
+        self.lines.clear();
+        Ok(())
+    }
+
+    /// Adds blocks that have no line.
+    pub fn add_empty(&mut self, ids: &[&str]) -> Result<(), AllocError> {
+        for id in ids {
+            self.begin(id)?;
+            self.end()?;
+        }
+        Ok(())
     }
 
     /// Ends the block.

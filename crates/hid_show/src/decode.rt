@@ -19,18 +19,20 @@ impl<'a> Decode<'a> {
     /// Shows each item; then a descriptor that can't be read is refused.
     pub fn run<R: World>(&self, rt: &R, settings: &Settings) -> Result<Ending> {
         let given = descriptor_within(rt, settings, self.file)?;
-        let bytes = given.descriptor();
-        let fault = ReportDescriptor::try_from_with(rt.alloc(), bytes, settings.parse).err();
-        match fault {
-            Some(ParserError::OutOfMemory) => bail!("out of memory"),
-            Some(fault) => {
-                show_items(rt, settings, bytes, Some(&fault))?;
-                Err(with_advice(rt.alloc(), settings, bytes, fault))
-            }
-            None => {
-                show_items(rt, settings, bytes, None)?;
-                Ok(Ending::Done)
-            }
+        show(rt, settings, given.descriptor())
+    }
+}
+
+fn show<R: World>(rt: &R, settings: &Settings, bytes: &[u8]) -> Result<Ending> {
+    match ReportDescriptor::try_from_with(rt.alloc(), bytes, settings.parse) {
+        Err(ParserError::OutOfMemory) => bail!("out of memory"),
+        Err(fault) => {
+            show_items(rt, settings, bytes, Some(&fault))?;
+            Err(with_advice(rt.alloc(), settings, bytes, fault))
+        }
+        Ok(_descriptor) => {
+            show_items(rt, settings, bytes, None)?;
+            Ok(Ending::Done)
         }
     }
 }
@@ -51,12 +53,22 @@ fn show_items<R: AllocGlobal + Print>(
         ItemStyle::Words
     };
     let mut lines = ItemLines::new(rt.alloc(), style, settings.parse, bytes, fault);
-    for _ in 0..bytes.len() {
-        if !lines.add_next(&mut text)? {
+    add_lines(rt, &mut text, &mut lines, bytes.len())?;
+    flush(rt, &mut text)
+}
+
+/// Shows so many items at most, and the end.
+fn add_lines<R: Print>(
+    rt: &R,
+    text: &mut String,
+    lines: &mut ItemLines,
+    most: usize,
+) -> Result<()> {
+    for _ in 0..most {
+        if !lines.add_next(text)? {
             break;
         }
-        flush_piece(rt, &mut text)?;
+        flush_piece(rt, text)?;
     }
-    lines.end(&mut text)?;
-    flush(rt, &mut text)
+    lines.end(text)
 }

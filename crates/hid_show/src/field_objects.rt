@@ -1,4 +1,5 @@
 //! `hid fields --json`: each field as JSON, with the offset of its item.
+use crate::fields::has_report;
 use crate::item_offsets::{ItemOffsets, unmended};
 use anyhow::Result;
 use hid_input::input::descriptor_named;
@@ -7,40 +8,60 @@ use hid_input::settings::Settings;
 use hid_input::world::World;
 use hid_objects::field_object::object_of;
 use hid_output::{add_json, flush, flush_piece};
-use hidreport::{Direction, Field, OutlineReport, RDescReport, Report, ReportDescriptor};
+use hidreport::{Change, Direction, Field, OutlineReport, RDescReport, Report, ReportDescriptor};
 
-/// Shows the fields of a descriptor as JSON, and answers its reports.
+/// Shows the fields of a descriptor as JSON, and answers whether it has a report.
 pub(crate) fn show_objects<R: World>(
     rt: &R,
     settings: &Settings,
     file: &str,
-) -> Result<ReportDescriptor> {
+) -> Result<bool> {
     let given = descriptor_named(rt, &unmended(settings), file)?;
-    let bytes = given.descriptor();
+    show_given(rt, settings, file, given.descriptor())
+}
+
+fn show_given<R: World>(
+    rt: &R,
+    settings: &Settings,
+    file: &str,
+    bytes: &[u8],
+) -> Result<bool> {
     if settings.reads_as_linux() {
         let device = mended(rt, settings, file, bytes)?;
-        let offsets = ItemOffsets::of(rt.alloc(), settings, device.bytes(), device.changes())?;
-        return show_read(rt, &offsets);
+        return show_mended(rt, settings, device.bytes(), device.changes());
     }
-    let offsets = ItemOffsets::of(rt.alloc(), settings, bytes, &[])?;
+    show_mended(rt, settings, bytes, &[])
+}
+
+/// Shows the fields of a descriptor in which these changes were made.
+fn show_mended<R: AllocGlobal + Print>(
+    rt: &R,
+    settings: &Settings,
+    bytes: &[u8],
+    changes: &[Change],
+) -> Result<bool> {
+    let offsets = ItemOffsets::of(rt.alloc(), settings, bytes, changes)?;
     show_read(rt, &offsets)
 }
 
 /// Shows the fields of a descriptor that is read.
-fn show_read<R: AllocGlobal + Print>(rt: &R, offsets: &ItemOffsets) -> Result<ReportDescriptor> {
+fn show_read<R: AllocGlobal + Print>(rt: &R, offsets: &ItemOffsets) -> Result<bool> {
     let descriptor = offsets.outline().lay_out(rt.alloc())?;
+    show_laid_out(rt, offsets, &descriptor)?;
+    Ok(has_report(&descriptor))
+}
+
+fn show_laid_out<R: AllocGlobal + Print>(
+    rt: &R,
+    offsets: &ItemOffsets,
+    descriptor: &ReportDescriptor,
+) -> Result<()> {
     let mut text = String::new(rt.alloc());
     for direction in Direction::ALL {
-        show_direction(
-            rt,
-            &mut text,
-            offsets,
-            direction,
-            descriptor.reports(direction),
-        )?;
+        let reports = descriptor.reports(direction);
+        show_direction(rt, &mut text, offsets, direction, reports)?;
     }
-    flush(rt, &mut text)?;
-    Ok(descriptor)
+    flush(rt, &mut text)
 }
 
 /// Shows the fields of a direction's reports.

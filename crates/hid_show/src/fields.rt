@@ -22,11 +22,11 @@ pub struct Fields<'a> {
     pub shows_linux: bool,
 }
 
-/// Whether a descriptor has no report in any direction.
-fn has_no_report(descriptor: &ReportDescriptor) -> bool {
+/// Whether a descriptor has a report in any direction.
+pub(crate) fn has_report(descriptor: &ReportDescriptor) -> bool {
     Direction::ALL
         .iter()
-        .all(|direction| descriptor.reports(*direction).is_empty())
+        .any(|direction| !descriptor.reports(*direction).is_empty())
 }
 
 impl<'a> Fields<'a> {
@@ -35,28 +35,37 @@ impl<'a> Fields<'a> {
         if self.shows_linux {
             return show_linux(rt, settings, self.file);
         }
-        let descriptor = if settings.is_json {
+        let has_report = if settings.is_json {
             show_objects(rt, settings, self.file)?
         } else {
             self.show_text(rt, settings)?
         };
-        if settings.has_notes() && has_no_report(&descriptor) {
+        if settings.has_notes() && !has_report {
             let file = escaped(rt.alloc(), self.file)?;
             eprintln!(rt; "hid: {file}: no item makes a field, so there is no report")?;
         }
         Ok(Ending::Done)
     }
 
-    /// Shows them in words, and answers what they are of.
-    fn show_text<R: World>(&self, rt: &R, settings: &Settings) -> Result<ReportDescriptor> {
+    /// Shows them in words, and answers whether there is one.
+    fn show_text<R: World>(&self, rt: &R, settings: &Settings) -> Result<bool> {
         let descriptor = descriptor_by(rt, settings, self.file)?;
+        self.show_directions(rt, settings, &descriptor)?;
+        Ok(has_report(&descriptor))
+    }
+
+    fn show_directions<R: AllocGlobal + Print>(
+        &self,
+        rt: &R,
+        settings: &Settings,
+        descriptor: &ReportDescriptor,
+    ) -> Result<()> {
         let mut text = String::new(rt.alloc());
         for direction in Direction::ALL {
             let reports = descriptor.reports(direction);
             self.show_reports(rt, settings, &mut text, (direction, reports))?;
         }
-        flush(rt, &mut text)?;
-        Ok(descriptor)
+        flush(rt, &mut text)
     }
 
     /// Shows reports, those with the same fields once.

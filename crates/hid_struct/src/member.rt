@@ -119,15 +119,21 @@ fn is_signed(field: &Field) -> bool {
 
 /// Gives each member its name.
 fn name_members(alloc: Global, members: &mut [Member]) -> Result<(), AllocError> {
-    let mut wanted = Vec::new(alloc);
-    for member in members.iter() {
-        wanted.push(wanted_name(alloc, member.field)?)?;
-    }
+    let wanted = wanted_names(alloc, members)?;
     let mut names = MemberNames::of(alloc, &wanted)?;
     for (member, wanted) in members.iter_mut().zip(wanted.iter()) {
         member.name = names.next(wanted.as_str())?;
     }
     Ok(())
+}
+
+/// The names that members want.
+fn wanted_names(alloc: Global, members: &[Member]) -> Result<Vec<String>, AllocError> {
+    let mut wanted = Vec::new(alloc);
+    for member in members {
+        wanted.push(wanted_name(alloc, member.field)?)?;
+    }
+    Ok(wanted)
 }
 
 /// The name that the member of a field wants.

@@ -15,6 +15,35 @@ use std::fmt::Write;
 /// How far a member is indented.
 const INDENT: usize = 4;
 
+/// What is written of a report next.
+#[derive(Clone, Copy)]
+enum Step {
+    /// A part that it has once.
+    Once(ReportPart),
+    /// One that it has where it has an id.
+    OfId(ReportPart),
+    /// One of each member.
+    Each(MemberPart),
+}
+
+static STEPS: [Step; 15] = [
+    Step::Once(ReportPart::Open),
+    Step::Each(MemberPart::Declared),
+    Step::Once(ReportPart::Size),
+    Step::OfId(ReportPart::Id),
+    Step::Each(MemberPart::Places),
+    Step::Once(ReportPart::Decode),
+    Step::OfId(ReportPart::IdTest),
+    Step::Once(ReportPart::Values),
+    Step::Each(MemberPart::Read),
+    Step::Once(ReportPart::Encode),
+    Step::Each(MemberPart::Checked),
+    Step::Once(ReportPart::Blank),
+    Step::OfId(ReportPart::IdPut),
+    Step::Each(MemberPart::Written),
+    Step::Once(ReportPart::End),
+];
+
 /// A report with the members of its struct.
 #[derive(Drop)]
 pub struct ReportStruct<'a> {
@@ -47,21 +76,13 @@ impl<'a> ReportStruct<'a> {
         if self.members.is_empty() {
             return Ok(());
         }
-        self.add(text, ReportPart::Open)?;
-        self.write_members(rt, text, MemberPart::Declared)?;
-        self.add(text, ReportPart::Size)?;
-        self.add_of_id(text, ReportPart::Id)?;
-        self.write_members(rt, text, MemberPart::Places)?;
-        self.add(text, ReportPart::Decode)?;
-        self.add_of_id(text, ReportPart::IdTest)?;
-        self.add(text, ReportPart::Values)?;
-        self.write_members(rt, text, MemberPart::Read)?;
-        self.add(text, ReportPart::Encode)?;
-        self.write_members(rt, text, MemberPart::Checked)?;
-        self.add(text, ReportPart::Blank)?;
-        self.add_of_id(text, ReportPart::IdPut)?;
-        self.write_members(rt, text, MemberPart::Written)?;
-        self.add(text, ReportPart::End)?;
+        for step in &STEPS {
+            match *step {
+                Step::Once(part) => self.add(text, part)?,
+                Step::OfId(part) => self.add_of_id(text, part)?,
+                Step::Each(part) => self.write_members(rt, text, part)?,
+            }
+        }
         flush_piece(rt, text)
     }
 

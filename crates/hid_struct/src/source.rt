@@ -8,7 +8,7 @@ use hid_input::settings::{Settings, limit_for};
 use hid_input::world::World;
 use hid_output::ending::Ending;
 use hid_output::flush;
-use hidreport::{Direction, Report, ReportDescriptor};
+use hidreport::{Direction, RDescReport, Report, ReportDescriptor};
 use std::alloc::Global;
 
 /// The most members of all structs.
@@ -28,36 +28,58 @@ impl<'a> Struct<'a> {
     pub fn run<R: World>(&self, rt: &R, settings: &Settings) -> Result<Ending> {
         let descriptor = descriptor_by(rt, settings, self.file)?;
         check(rt.alloc(), settings, &descriptor)?;
+        self.write(rt, &descriptor)?;
+        Ok(Ending::Done)
+    }
+
+    fn write<R: AllocGlobal + Print>(&self, rt: &R, descriptor: &ReportDescriptor) -> Result<()> {
         let mut text = String::from_str(rt.alloc(), self.language.head())?;
         for direction in Direction::ALL {
-            for report in descriptor.reports(direction) {
-                ReportStruct::of(rt.alloc(), self.language, direction, report)?.write(
-                    rt, &mut text,
-                )?;
-            }
+            self.write_reports(rt, &mut text, direction, descriptor.reports(direction))?;
         }
-        flush(rt, &mut text)?;
-        Ok(Ending::Done)
+        flush(rt, &mut text)
+    }
+
+    fn write_reports<R: AllocGlobal + Print>(
+        &self,
+        rt: &R,
+        text: &mut String,
+        direction: Direction,
+        reports: &[RDescReport],
+    ) -> Result<()> {
+        for report in reports {
+            let own = ReportStruct::of(rt.alloc(), self.language, direction, report)?;
+            own.write(rt, text)?;
+        }
+        Ok(())
     }
 }
 
 /// Refuses a descriptor without a report, with a report of too many bytes, or whose structs would
 /// have too many members.
 fn check(alloc: Global, settings: &Settings, descriptor: &ReportDescriptor) -> Result<()> {
-    let (mut is_any, mut members) = (false, 0usize);
+    let (mut count, mut members) = (0usize, 0usize);
     for direction in Direction::ALL {
-        for report in descriptor.reports(direction) {
-            check_size(settings, report.size_in_bytes())?;
-            members = members.saturating_add(count_members(alloc, report)?);
-            is_any = true;
-        }
+        let reports = descriptor.reports(direction);
+        count = count.saturating_add(reports.len());
+        members = members.saturating_add(checked_members(alloc, settings, reports)?);
     }
-    ensure!(is_any, "no item makes a field, so there is no report");
+    ensure!(count != 0, "no item makes a field, so there is no report");
     ensure!(
         members <= MOST_MEMBERS,
         "the structs have {members} members, more than {MOST_MEMBERS}"
     );
     Ok(())
+}
+
+/// How many members the structs of these reports have; of one of too many bytes there is none.
+fn checked_members(alloc: Global, settings: &Settings, reports: &[RDescReport]) -> Result<usize> {
+    let mut members = 0usize;
+    for report in reports {
+        check_size(settings, report.size_in_bytes())?;
+        members = members.saturating_add(count_members(alloc, report)?);
+    }
+    Ok(members)
 }
 
 /// Refuses a report of more bytes than a descriptor may have.

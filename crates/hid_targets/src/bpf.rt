@@ -19,11 +19,18 @@ const IN_A_LINE: usize = 16;
 /// Writes a descriptor's bytes, a macro in a line; bytes that no macro writes stand as they are.
 pub fn write_bpf<R: AllocGlobal + Print>(rt: &R, bytes: &[u8]) -> Result<()> {
     let mut text = String::new(rt.alloc());
+    text.push_str("static const __u8 report_descriptor[] = {\n")?;
+    write_items(rt, &mut text, bytes)?;
+    text.push_str("};\n")?;
+    flush(rt, &mut text)
+}
+
+/// Writes the items, and the bytes behind them that are none.
+fn write_items<R: AllocGlobal + Print>(rt: &R, text: &mut String, bytes: &[u8]) -> Result<()> {
     let is_nested = is_nested(rt.alloc(), bytes)?;
     let mut state = ItemState::new(rt.alloc());
     let mut depth = 1usize;
     let mut cursor = ItemCursor::new(bytes);
-    text.push_str("static const __u8 report_descriptor[] = {\n")?;
     for _ in 0..bytes.len() {
         let Some(entry) = cursor.next() else {
             break;
@@ -31,25 +38,41 @@ pub fn write_bpf<R: AllocGlobal + Print>(rt: &R, bytes: &[u8]) -> Result<()> {
         if is_nested && is_end(&entry.item) {
             depth = depth.saturating_sub(1);
         }
-        add_tabs(&mut text, depth)?;
-        if is_nested && add_around(&mut text, entry.bytes)? {
+        add_tabs(text, depth)?;
+        if is_nested && add_around(text, entry.bytes)? {
             depth = depth.saturating_add(usize::from(!is_end(&entry.item)));
-        } else if add_range(&mut text, entry.bytes, cursor.rest())? {
-            // No bound changes what is written of other items.
-            let _maximum = cursor.next();
         } else {
-            add_code(&mut text, &entry, &state)?;
+            add_next(text, &entry, &mut cursor, &state)?;
         }
         state.pass(&entry)?;
-        flush_piece(rt, &mut text)?;
+        flush_piece(rt, text)?;
     }
-    for line in cursor.rest().chunks(IN_A_LINE) {
+    add_rest(text, cursor.rest())
+}
+
+/// Appends an item, with the one behind it where both are a range.
+fn add_next(
+    text: &mut String,
+    entry: &PlacedItem,
+    cursor: &mut ItemCursor,
+    state: &ItemState,
+) -> Result<(), AllocError> {
+    if add_range(text, entry.bytes, cursor.rest())? {
+        // No bound changes what is written of other items.
+        let _maximum = cursor.next();
+        return Ok(());
+    }
+    add_code(text, entry, state)
+}
+
+/// Appends bytes that are no item, in lines.
+fn add_rest(text: &mut String, rest: &[u8]) -> Result<()> {
+    for line in rest.chunks(IN_A_LINE) {
         text.push_str("\t")?;
-        add_numbers(&mut text, line)?;
+        add_numbers(text, line)?;
         text.push_str("\n")?;
     }
-    text.push_str("};\n")?;
-    flush(rt, &mut text)
+    Ok(())
 }
 
 /// Whether an item ends what another begins.

@@ -72,19 +72,19 @@ pub enum Target {
 impl Target {
     /// The target with this name; hex text where none is told.
     pub fn named(name: Option<&str>) -> Target {
-        match name {
-            Some("c") => Target::Source(Source::C),
-            Some("rust") => Target::Source(Source::Rust),
-            Some("bytes") => Target::Bytes,
-            Some("recording") => Target::Recording,
-            Some("python") => Target::Source(Source::Python),
-            Some("kernel") => Target::Source(Source::Kernel),
-            Some("zephyr") => Target::Source(Source::Zephyr),
-            Some("tinyusb") => Target::Source(Source::TinyUsb),
-            Some("lufa") => Target::Source(Source::Lufa),
-            Some("hid-bpf") => Target::HidBpf,
-            Some("libinput") => Target::Libinput,
-            Some("webhid") => Target::WebHid,
+        match name.unwrap_or("hex") {
+            "c" => Target::Source(Source::C),
+            "rust" => Target::Source(Source::Rust),
+            "bytes" => Target::Bytes,
+            "recording" => Target::Recording,
+            "python" => Target::Source(Source::Python),
+            "kernel" => Target::Source(Source::Kernel),
+            "zephyr" => Target::Source(Source::Zephyr),
+            "tinyusb" => Target::Source(Source::TinyUsb),
+            "lufa" => Target::Source(Source::Lufa),
+            "hid-bpf" => Target::HidBpf,
+            "libinput" => Target::Libinput,
+            "webhid" => Target::WebHid,
             _ => Target::Hex,
         }
     }

@@ -39,51 +39,59 @@ pub enum ReportTarget {
 impl ReportTarget {
     /// The target with this name; hex text where none is told.
     pub fn named(name: Option<&str>) -> ReportTarget {
-        match name {
-            Some("c") => ReportTarget::C,
-            Some("rust") => ReportTarget::Rust,
-            Some("bytes") => ReportTarget::Bytes,
-            Some("recording") => ReportTarget::Recording,
-            Some("python") => ReportTarget::Python,
-            Some("kernel") => ReportTarget::Kernel,
+        match name.unwrap_or("hex") {
+            "c" => ReportTarget::C,
+            "rust" => ReportTarget::Rust,
+            "bytes" => ReportTarget::Bytes,
+            "recording" => ReportTarget::Recording,
+            "python" => ReportTarget::Python,
+            "kernel" => ReportTarget::Kernel,
             _ => ReportTarget::Hex,
         }
     }
 
     /// Writes a report's bytes, as text in one line.
     pub fn write<R: AllocGlobal + Print>(self, rt: &R, bytes: &[u8]) -> Result<()> {
+        if self == ReportTarget::Bytes {
+            return write_bytes(rt, bytes);
+        }
         let mut text = String::new(rt.alloc());
+        self.add(&mut text, bytes)?;
+        flush(rt, &mut text)
+    }
+
+    /// Appends them as text.
+    fn add(self, text: &mut String, bytes: &[u8]) -> Result<(), AllocError> {
         let count = bytes.len();
         match self {
             ReportTarget::Hex => {
-                add_bytes(&mut text, bytes)?;
-                text.push_str("\n")?;
+                add_bytes(text, bytes)?;
+                text.push_str("\n")
             }
-            ReportTarget::Bytes => write_bytes(rt, bytes)?,
-            ReportTarget::Recording => add_counted(&mut text, "E: 000000.000000", bytes)?,
+            ReportTarget::Bytes => Ok(()),
+            ReportTarget::Recording => add_counted(text, "E: 000000.000000", bytes),
             ReportTarget::C => {
                 writeln!(text, "static const unsigned char report[{count}] = {{")?;
-                add_line(&mut text, "    ", bytes, "};")?;
+                add_list(text, "    ", bytes, "};")
             }
             ReportTarget::Rust => {
                 writeln!(text, "pub const REPORT: [u8; {count}] = [")?;
-                add_line(&mut text, "    ", bytes, "];")?;
+                add_list(text, "    ", bytes, "];")
             }
             ReportTarget::Python => {
                 text.push_str("report = bytes([\n")?;
-                add_line(&mut text, "    ", bytes, "])")?;
+                add_list(text, "    ", bytes, "])")
             }
             ReportTarget::Kernel => {
                 text.push_str("static const __u8 report[] = {\n")?;
-                add_line(&mut text, "\t", bytes, "};")?;
+                add_list(text, "\t", bytes, "};")
             }
         }
-        flush(rt, &mut text)
     }
 }
 
 /// Appends a line of bytes behind a margin, and one that ends the list.
-fn add_line(text: &mut String, margin: &str, bytes: &[u8], end: &str) -> Result<(), AllocError> {
+fn add_list(text: &mut String, margin: &str, bytes: &[u8], end: &str) -> Result<(), AllocError> {
     text.push_str(margin)?;
     add_numbers(text, bytes)?;
     write!(text, "\n{end}\n")

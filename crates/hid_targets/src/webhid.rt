@@ -52,19 +52,24 @@ struct Collections {
 /// The collections of a descriptor that is read, as a list of JSON.
 pub fn collections_of(alloc: Global, bytes: &[u8]) -> Result<String> {
     let mut collections = Collections::new(alloc);
-    collections.text.push_str("[")?;
-    for entry in ItemCursor::new(bytes) {
-        collections.pass(&entry)?;
-        collections.state.pass(&entry)?;
-    }
-    for _ in 0..collections.open.len() {
-        collections.close()?;
-    }
-    collections.text.push_str("\n]\n")?;
+    collections.write(bytes)?;
     Ok(collections.text)
 }
 
 impl Collections {
+    /// Writes those of a descriptor.
+    fn write(&mut self, bytes: &[u8]) -> Result<()> {
+        self.text.push_str("[")?;
+        for entry in ItemCursor::new(bytes) {
+            self.pass(&entry)?;
+            self.state.pass(&entry)?;
+        }
+        for _ in 0..self.open.len() {
+            self.close()?;
+        }
+        Ok(self.text.push_str("\n]\n")?)
+    }
+
     /// Before the first item.
     fn new(alloc: Global) -> Collections {
         Collections {

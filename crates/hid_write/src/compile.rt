@@ -45,34 +45,48 @@ struct Line<'a> {
 impl<'a> Compile<'a> {
     /// Writes the bytes of all lines.
     pub fn run<R: World>(&self, rt: &R, settings: &Settings) -> Result<Ending> {
-        let text = text_named(rt, self.text)?;
-        let compiled = Compiled::of(rt.alloc(), &text)?;
-        check_length(settings, &compiled.bytes)?;
-        if settings.read_as == Some(ReadAs::Linux) {
-            let device = mended(rt, settings, self.text, &compiled.bytes)?;
-            self.target.write(rt, settings, device.bytes())?;
-        } else {
-            self.target.write(rt, settings, &compiled.bytes)?;
-        }
+        let bytes = self.compiled(rt)?;
+        self.write(rt, settings, &bytes)?;
         Ok(Ending::Done)
+    }
+
+    /// The bytes of all lines.
+    fn compiled<R: World>(&self, rt: &R) -> Result<Vec<u8>> {
+        let text = text_named(rt, self.text)?;
+        let mut compiled = Compiled::new(rt.alloc())?;
+        compiled.take(&text)?;
+        Ok(compiled.bytes)
+    }
+
+    /// Writes bytes, or what Linux makes of them.
+    fn write<R: World>(&self, rt: &R, settings: &Settings, bytes: &[u8]) -> Result<()> {
+        check_length(settings, bytes)?;
+        if settings.read_as == Some(ReadAs::Linux) {
+            let device = mended(rt, settings, self.text, bytes)?;
+            return self.target.write(rt, settings, device.bytes());
+        }
+        self.target.write(rt, settings, bytes)
     }
 }
 
 impl Compiled {
-    /// What all lines of a text say.
-    fn of(alloc: Global, text: &str) -> Result<Compiled> {
-        let mut compiled = Compiled {
+    /// Before the first line.
+    fn new(alloc: Global) -> Result<Compiled, AllocError> {
+        Ok(Compiled {
             alloc,
             bytes: Vec::new(alloc),
             state: ItemState::new(alloc),
             flags: FlagTable::new(alloc)?,
-        };
+        })
+    }
+
+    /// Takes all lines of a text.
+    fn take(&mut self, text: &str) -> Result<()> {
         for (line, number) in text.lines().zip(1usize..) {
-            compiled
-                .add_text(line)
+            self.add_text(line)
                 .context(format_args!("line {number}"))?;
         }
-        Ok(compiled)
+        Ok(())
     }
 
     /// Takes a line of text. One that is empty, a remark behind `//` or `;` and the line of a fault
@@ -117,22 +131,25 @@ impl Compiled {
         if !cursor.rest().is_empty() {
             bail!("the bytes are more than an item");
         }
-        let own = self.words_of(&entry)?;
+        self.check_words(&entry, words)?;
+        self.bytes.extend_from_slice(bytes)?;
+        Ok(self.state.pass(&entry)?)
+    }
+
+    /// Refuses words that aren't those of an item.
+    fn check_words(&self, entry: &PlacedItem, words: &str) -> Result<()> {
+        let own = self.words_of(entry)?;
         if !are_same_words(own.as_str(), words) {
             let words = escaped(self.alloc, words)?;
             bail!("the bytes say '{own}', and the words '{words}'");
         }
-        self.bytes.extend_from_slice(bytes)?;
-        Ok(self.state.pass(&entry)?)
+        Ok(())
     }
 
     /// Takes the item that words say; a refusal has them as they are written.
     fn add_words(&mut self, words: &str, said: &str) -> Result<()> {
         let Some(item) = item_of_words(words, self.state.page(), &self.flags) else {
-            let mut nearest = String::new(self.alloc);
-            add_nearest_words(&mut nearest, said, self.state.page())?;
-            let words = escaped(self.alloc, said)?;
-            bail!("'{words}' is no item{nearest}");
+            return self.refuse_words(said);
         };
         let written = write_item(&item);
         let entry = PlacedItem {
@@ -140,14 +157,28 @@ impl Compiled {
             bytes: written.as_slice(),
             item,
         };
-        let own = self.words_of(&entry)?;
-        let is_said = are_same_words(own.as_str(), words) || is_number_of(words, &entry);
+        self.check_said(&entry, words, said)?;
+        self.bytes.extend_from_slice(entry.bytes)?;
+        Ok(self.state.pass(&entry)?)
+    }
+
+    /// Refuses words that say no item.
+    fn refuse_words(&self, said: &str) -> Result<()> {
+        let mut nearest = String::new(self.alloc);
+        add_nearest_words(&mut nearest, said, self.state.page())?;
+        let words = escaped(self.alloc, said)?;
+        bail!("'{words}' is no item{nearest}")
+    }
+
+    /// Refuses words that say an item otherwise than it reads.
+    fn check_said(&self, entry: &PlacedItem, words: &str, said: &str) -> Result<()> {
+        let own = self.words_of(entry)?;
+        let is_said = are_same_words(own.as_str(), words) || is_number_of(words, entry);
         if !is_said || entry.bytes.is_empty() {
             let words = escaped(self.alloc, said)?;
             bail!("'{words}' can't be said: the item would be '{own}'");
         }
-        self.bytes.extend_from_slice(entry.bytes)?;
-        Ok(self.state.pass(&entry)?)
+        Ok(())
     }
 
     /// An item in words.

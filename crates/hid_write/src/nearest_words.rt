@@ -7,6 +7,7 @@ use hidreport::types::UsagePage;
 use hidreport_items::read_item;
 use hidreport_usages::{collection_name, item_name, page_name, usage_name};
 use std::alloc::{AllocError, Global};
+use std::fmt::Write;
 
 /// How many usages of a page are looked at.
 const LOOKED_AT: u32 = 4_096;
@@ -17,6 +18,21 @@ const FLAGS: &str = "; flags stand as in Input (Data,Var,Abs), or as a number";
 /// What stands where a number is none.
 const NUMBER: &str = "; a number is decimal, or hexadecimal behind 0x";
 
+/// What is looked for where words say no item.
+#[derive(Clone, Copy)]
+enum LookedFor {
+    /// The name of an item.
+    Names,
+    /// Of a collection its kind.
+    Kinds,
+    /// A page.
+    Pages,
+    /// A usage of the page in force.
+    Usages,
+    /// Nothing: this is said.
+    Nothing(&'static str),
+}
+
 /// Appends what a line may have been meant to say: the name of an item where it has none of them, else
 /// what may stand in the parentheses of the item that it names.
 pub fn add_nearest_words(
@@ -25,30 +41,50 @@ pub fn add_nearest_words(
     page: UsagePage,
 ) -> Result<(), AllocError> {
     let (name, told) = words.split_once("(").unwrap_or((words, ""));
-    let (name, told) = (name.trim(), told.trim());
-    let alloc = *text.allocator();
-    let mut nearest = Nearest::new(alloc, words)?;
-    match item_named(name) {
-        None => add_names(&mut nearest, alloc)?,
-        Some(ItemType::Main(MainItem::EndCollection)) => {}
-        Some(ItemType::Main(MainItem::Collection(_))) => add_kinds(&mut nearest, alloc, name)?,
-        Some(ItemType::Main(_)) => return text.push_str(FLAGS),
-        Some(_) if is_number(told) => return text.push_str(NUMBER),
-        Some(ItemType::Global(GlobalItem::UsagePage(_))) => add_pages(&mut nearest, alloc, name)?,
-        Some(ItemType::Local(local)) if has_usage(&local) => {
-            if u16::from(page) == 0 {
-                return text.push_str("; no usage page is in force");
-            }
-            add_usages(&mut nearest, alloc, name, page)?;
-        }
-        Some(_) => return text.push_str(NUMBER),
+    let name = name.trim();
+    let looked_for = looked_for(name, told.trim(), page);
+    if let LookedFor::Nothing(said) = looked_for {
+        return text.push_str(said);
     }
+    let mut nearest = Nearest::new(*text.allocator(), words)?;
+    add_all(&mut nearest, *text.allocator(), looked_for, name, page)?;
     match nearest.first() {
-        Some(name) => {
-            text.push_str("; the nearest is ")?;
-            text.push_str(name)
-        }
+        Some(name) => write!(text, "; the nearest is {name}"),
         None => Ok(()),
+    }
+}
+
+/// What is looked for where the words name this item, and have these in its parentheses.
+fn looked_for(name: &str, told: &str, page: UsagePage) -> LookedFor {
+    match item_named(name) {
+        None => LookedFor::Names,
+        Some(ItemType::Main(MainItem::EndCollection)) => LookedFor::Nothing(""),
+        Some(ItemType::Main(MainItem::Collection(_))) => LookedFor::Kinds,
+        Some(ItemType::Main(_)) => LookedFor::Nothing(FLAGS),
+        Some(_) if is_number(told) => LookedFor::Nothing(NUMBER),
+        Some(ItemType::Global(GlobalItem::UsagePage(_))) => LookedFor::Pages,
+        Some(ItemType::Local(local)) if has_usage(&local) => match u16::from(page) {
+            0 => LookedFor::Nothing("; no usage page is in force"),
+            _ => LookedFor::Usages,
+        },
+        Some(_) => LookedFor::Nothing(NUMBER),
+    }
+}
+
+/// Takes all words that are looked for.
+fn add_all(
+    nearest: &mut Nearest,
+    alloc: Global,
+    looked_for: LookedFor,
+    name: &str,
+    page: UsagePage,
+) -> Result<(), AllocError> {
+    match looked_for {
+        LookedFor::Names => add_names(nearest, alloc),
+        LookedFor::Kinds => add_kinds(nearest, alloc, name),
+        LookedFor::Pages => add_pages(nearest, alloc, name),
+        LookedFor::Usages => add_usages(nearest, alloc, name, page),
+        LookedFor::Nothing(_) => Ok(()),
     }
 }
 

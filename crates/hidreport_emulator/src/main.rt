@@ -45,10 +45,16 @@ fn main(rt: HostRuntime) -> Result<()> {
     let report = descriptor.input_reports().first().context("no report")?;
     for controls in REPORTS {
         let bytes = report_with(rt.alloc(), report, controls)?;
-        println!(rt; "report {}", hex::encode(rt.alloc(), &bytes)?)?;
-        for field in report.fields() {
-            print_field(&rt, field, &bytes)?;
-        }
+        print_report(&rt, report, &bytes)?;
+    }
+    Ok(())
+}
+
+/// Prints a report, and each of its fields.
+fn print_report<R: AllocGlobal + Print>(rt: &R, report: &RDescReport, bytes: &[u8]) -> Result<()> {
+    println!(rt; "report {}", hex::encode(rt.alloc(), bytes)?)?;
+    for field in report.fields() {
+        print_field(rt, field, bytes)?;
     }
     Ok(())
 }

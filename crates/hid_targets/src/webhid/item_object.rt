@@ -15,8 +15,20 @@ static SYSTEMS: [&str; 5] = [
 
 /// An item of a report.
 #[derive(Drop, Serialize)]
-#[serde(rename_all = "camelCase")]
 pub struct ItemObject<'a> {
+    #[serde(flatten)]
+    flags: FlagsObject,
+    #[serde(flatten)]
+    usages: UsagesObject<'a>,
+    #[serde(flatten)]
+    unit: UnitObject,
+    #[serde(flatten)]
+    bounds: BoundsObject,
+}
+
+#[derive(Drop, Serialize)]
+#[serde(rename_all = "camelCase")]
+struct FlagsObject {
     is_absolute: bool,
     is_array: bool,
     is_buffered_bytes: bool,
@@ -27,6 +39,12 @@ pub struct ItemObject<'a> {
     has_null: bool,
     has_preferred_state: bool,
     wrap: bool,
+}
+
+/// Its usages, and how many elements of how many bits it has.
+#[derive(Drop, Serialize)]
+#[serde(rename_all = "camelCase")]
+struct UsagesObject<'a> {
     #[serde(skip_serializing_if = "Option::is_none")]
     usages: Option<&'a [u32]>,
     #[serde(skip_serializing_if = "Option::is_none")]
@@ -35,6 +53,11 @@ pub struct ItemObject<'a> {
     usage_maximum: Option<u32>,
     report_size: usize,
     report_count: usize,
+}
+
+#[derive(Drop, Serialize)]
+#[serde(rename_all = "camelCase")]
+struct UnitObject {
     unit_exponent: i8,
     unit_system: &'static str,
     unit_factor_length_exponent: i8,
@@ -43,6 +66,11 @@ pub struct ItemObject<'a> {
     unit_factor_temperature_exponent: i8,
     unit_factor_current_exponent: i8,
     unit_factor_luminous_intensity_exponent: i8,
+}
+
+#[derive(Drop, Serialize)]
+#[serde(rename_all = "camelCase")]
+struct BoundsObject {
     logical_minimum: i32,
     logical_maximum: i32,
     physical_minimum: i32,
@@ -51,19 +79,34 @@ pub struct ItemObject<'a> {
 
 /// An item with these flags, under these globals, with these usages.
 pub fn item_object<'a>(flags: ItemFlags, globals: &Globals, locals: &'a Locals) -> ItemObject<'a> {
-    let (range, unit) = (locals.range(), globals.unit);
-    let shows_usages = range.is_none() || !locals.usages.is_empty();
     ItemObject {
-        is_absolute: !flags.is_relative,
-        is_array: !flags.is_variable,
-        is_buffered_bytes: flags.is_buffered_bytes,
-        is_constant: flags.is_constant,
-        is_linear: !flags.is_nonlinear,
-        is_range: range.is_some(),
-        is_volatile: flags.is_volatile,
-        has_null: flags.has_null_state,
-        has_preferred_state: !flags.has_no_preferred_state,
-        wrap: flags.wraps,
+        flags: FlagsObject {
+            is_absolute: !flags.is_relative,
+            is_array: !flags.is_variable,
+            is_buffered_bytes: flags.is_buffered_bytes,
+            is_constant: flags.is_constant,
+            is_linear: !flags.is_nonlinear,
+            is_range: locals.range().is_some(),
+            is_volatile: flags.is_volatile,
+            has_null: flags.has_null_state,
+            has_preferred_state: !flags.has_no_preferred_state,
+            wrap: flags.wraps,
+        },
+        usages: usages_object(globals, locals),
+        unit: unit_object(globals),
+        bounds: BoundsObject {
+            logical_minimum: globals.minimum,
+            logical_maximum: globals.maximum,
+            physical_minimum: globals.physical_minimum,
+            physical_maximum: globals.physical_maximum,
+        },
+    }
+}
+
+fn usages_object<'a>(globals: &Globals, locals: &'a Locals) -> UsagesObject<'a> {
+    let range = locals.range();
+    let shows_usages = range.is_none() || !locals.usages.is_empty();
+    UsagesObject {
         usages: if shows_usages {
             Some(&locals.usages)
         } else {
@@ -73,6 +116,12 @@ pub fn item_object<'a>(flags: ItemFlags, globals: &Globals, locals: &'a Locals) 
         usage_maximum: range.map(|(_start, end)| end),
         report_size: globals.size,
         report_count: globals.count,
+    }
+}
+
+fn unit_object(globals: &Globals) -> UnitObject {
+    let unit = globals.unit;
+    UnitObject {
         unit_exponent: globals.exponent,
         unit_system: system_of(unit),
         unit_factor_length_exponent: power_of(unit >> 4),
@@ -81,10 +130,6 @@ pub fn item_object<'a>(flags: ItemFlags, globals: &Globals, locals: &'a Locals) 
         unit_factor_temperature_exponent: power_of(unit >> 16),
         unit_factor_current_exponent: power_of(unit >> 20),
         unit_factor_luminous_intensity_exponent: power_of(unit >> 24),
-        logical_minimum: globals.minimum,
-        logical_maximum: globals.maximum,
-        physical_minimum: globals.physical_minimum,
-        physical_maximum: globals.physical_maximum,
     }
 }
 
