@@ -42,6 +42,19 @@ pub struct FieldObject {
     end: usize,
     kind: &'static str,
     name: String,
+    #[serde(flatten)]
+    usages: UsagesObject,
+    #[serde(flatten)]
+    numbers: NumbersObject,
+    flags: Option<FlagsObject>,
+    collections: Vec<CollectionObject>,
+    #[serde(skip_serializing_if = "Option::is_none")]
+    linux: Option<Vec<AnswerObject>>,
+}
+
+/// The usage of a field with one value, or those of one with several, and how many values it has.
+#[derive(Drop, Serialize)]
+struct UsagesObject {
     #[serde(skip_serializing_if = "Option::is_none")]
     usage: Option<u32>,
     #[serde(skip_serializing_if = "Option::is_none")]
@@ -54,16 +67,17 @@ pub struct FieldObject {
     usage_range: Option<Vec<u32>>,
     #[serde(skip_serializing_if = "Option::is_none")]
     count: Option<usize>,
+}
+
+/// The bounds and the unit of a field.
+#[derive(Clone, Copy, Drop, Serialize)]
+struct NumbersObject {
     logical_minimum: Option<i32>,
     logical_maximum: Option<i32>,
     physical_minimum: Option<i32>,
     physical_maximum: Option<i32>,
     unit: Option<u32>,
     unit_exponent: Option<i8>,
-    flags: Option<FlagsObject>,
-    collections: Vec<CollectionObject>,
-    #[serde(skip_serializing_if = "Option::is_none")]
-    linux: Option<Vec<AnswerObject>>,
 }
 
 /// Usages of an item that no field has, with what Linux gives them.
@@ -147,18 +161,8 @@ fn plain(
         end: field.bits().end,
         kind,
         name,
-        usage: None,
-        usage_page: None,
-        usage_id: None,
-        usages: None,
-        usage_range: None,
-        count: None,
-        logical_minimum: None,
-        logical_maximum: None,
-        physical_minimum: None,
-        physical_maximum: None,
-        unit: None,
-        unit_exponent: None,
+        usages: UsagesObject::none(),
+        numbers: NumbersObject::none(),
         flags: None,
         collections: collections_of(alloc, field.collections())?,
         linux: None,
@@ -178,14 +182,36 @@ impl FieldObject {
 
     /// Takes what a field with one value has.
     fn add_variable(&mut self, field: &VariableField) {
-        self.usage = Some(u32::from(field.usage));
-        self.usage_page = Some(u16::from(field.usage.usage_page));
-        self.usage_id = Some(u16::from(field.usage.usage_id));
-        self.add_numbers(FieldNumbers::of_variable(field));
+        self.usages.usage = Some(u32::from(field.usage));
+        self.usages.usage_page = Some(u16::from(field.usage.usage_page));
+        self.usages.usage_id = Some(u16::from(field.usage.usage_id));
+        self.numbers = NumbersObject::of(FieldNumbers::of_variable(field));
         self.flags = Some(flags_of(field));
     }
 
     /// Takes what a field with several values has.
+    fn add_array(&mut self, alloc: Global, field: &ArrayField) -> Result<(), AllocError> {
+        self.usages.add_array(alloc, field)?;
+        self.numbers = NumbersObject::of(FieldNumbers::of_array(field));
+        self.flags = Some(flags_of(field));
+        Ok(())
+    }
+}
+
+impl UsagesObject {
+    /// Those of padding.
+    fn none() -> UsagesObject {
+        UsagesObject {
+            usage: None,
+            usage_page: None,
+            usage_id: None,
+            usages: None,
+            usage_range: None,
+            count: None,
+        }
+    }
+
+    /// Takes those of a field with several values.
     fn add_array(&mut self, alloc: Global, field: &ArrayField) -> Result<(), AllocError> {
         match field.usages() {
             [first, .., last] if field.is_usage_range() => {
@@ -197,18 +223,32 @@ impl FieldObject {
             usages => self.usages = Some(numbers_of(alloc, usages)?),
         }
         self.count = Some(usize::from(field.report_count));
-        self.add_numbers(FieldNumbers::of_array(field));
-        self.flags = Some(flags_of(field));
         Ok(())
     }
+}
 
-    fn add_numbers(&mut self, numbers: FieldNumbers) {
-        self.logical_minimum = Some(numbers.logical.0);
-        self.logical_maximum = Some(numbers.logical.1);
-        self.physical_minimum = numbers.physical.0;
-        self.physical_maximum = numbers.physical.1;
-        self.unit = numbers.unit;
-        self.unit_exponent = numbers.exponent.map(|it| it.exponent());
+impl NumbersObject {
+    /// Those of padding.
+    fn none() -> NumbersObject {
+        NumbersObject {
+            logical_minimum: None,
+            logical_maximum: None,
+            physical_minimum: None,
+            physical_maximum: None,
+            unit: None,
+            unit_exponent: None,
+        }
+    }
+
+    fn of(numbers: FieldNumbers) -> NumbersObject {
+        NumbersObject {
+            logical_minimum: Some(numbers.logical.0),
+            logical_maximum: Some(numbers.logical.1),
+            physical_minimum: numbers.physical.0,
+            physical_maximum: numbers.physical.1,
+            unit: numbers.unit,
+            unit_exponent: numbers.exponent.map(|it| it.exponent()),
+        }
     }
 }
 

@@ -52,15 +52,25 @@ fn read(
 fn said(alloc: Global, text: &str, form: Form, wanted: Wanted, names: &[&str]) -> Result<Given> {
     let mut found = Found::new(alloc);
     if let Some(mut lines) = FormLines::new(alloc, form, wanted) {
-        lines.define(names)?;
-        for (number, line) in (1u64..).zip(text.lines()) {
-            lines
-                .take(&mut found, line)
-                .context(format_args!("line {number}"))?;
-        }
-        lines.end(&mut found)?;
+        take_lines(&mut lines, &mut found, names, text)?;
     }
     Ok(found.given(form))
+}
+
+/// Takes the lines of a text, where these names are defined, and their end.
+fn take_lines(
+    lines: &mut FormLines,
+    found: &mut Found,
+    names: &[&str],
+    text: &str,
+) -> Result<()> {
+    lines.define(names)?;
+    for (number, line) in (1u64..).zip(text.lines()) {
+        lines
+            .take(found, line)
+            .context(format_args!("line {number}"))?;
+    }
+    lines.end(found)
 }
 
 /// What the packets of a capture say.

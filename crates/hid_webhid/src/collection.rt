@@ -72,25 +72,44 @@ pub fn collections_in(alloc: Global, list: &Value) -> Result<Vec<Collection>> {
         let Some(next) = pending.pop() else {
             break;
         };
-        let path = String::from_str(alloc, next.path.as_str())?;
-        let collection = read_collection(alloc, next.object, path, next.depth).context(format_args!(
-            "{}",
-            next.path.as_str()
-        ))?;
-        if next.depth > 0
-            && let Some(parent) = collections.get_mut(next.parent)
-        {
-            parent.children.push(place)?;
-        }
-        collections.push(collection)?;
-        if let Some(children) = next.object.get("children") {
-            let path = format!(in alloc; "{}.children", next.path.as_str())?;
-            let depth = next.depth.saturating_add(1);
-            add_pending(alloc, &mut pending, children, path.as_str(), depth, place)?;
-        }
+        add_collection(alloc, &mut collections, &next, place)?;
+        add_children(alloc, &mut pending, &next, place)?;
     }
     ensure!(!collections.is_empty(), "has no collection");
     Ok(collections)
+}
+
+/// Reads a collection, which stands at this place among all.
+fn add_collection(
+    alloc: Global,
+    collections: &mut Vec<Collection>,
+    next: &Pending,
+    place: usize,
+) -> Result<()> {
+    let path = String::from_str(alloc, next.path.as_str())?;
+    let collection = read_collection(alloc, next.object, path, next.depth);
+    let collection = collection.context(format_args!("{}", next.path.as_str()))?;
+    if next.depth > 0
+        && let Some(parent) = collections.get_mut(next.parent)
+    {
+        parent.children.push(place)?;
+    }
+    Ok(collections.push(collection)?)
+}
+
+/// Takes the collections in a collection as the next ones to be read.
+fn add_children<'a>(
+    alloc: Global,
+    pending: &mut Vec<Pending<'a>>,
+    next: &Pending<'a>,
+    place: usize,
+) -> Result<()> {
+    let Some(children) = next.object.get("children") else {
+        return Ok(());
+    };
+    let path = format!(in alloc; "{}.children", next.path.as_str())?;
+    let depth = next.depth.saturating_add(1);
+    add_pending(alloc, pending, children, path.as_str(), depth, place)
 }
 
 /// Takes the collections of a list as the next ones to be read.
@@ -137,18 +156,24 @@ fn read_collection(
         reports: Vec::new(alloc),
         children: Vec::new(alloc),
     };
-    for (name, tag) in &LISTS {
-        check_list(object, name)?;
-        if let Some(Value::Array(reports)) = object.get(*name) {
-            for (report, place) in reports.iter().zip(0usize..) {
-                collection.add_report(alloc, report, name, place, *tag)?;
-            }
-        }
-    }
+    collection.take_reports(alloc, object)?;
     Ok(collection)
 }
 
 impl Collection {
+    /// Takes the reports of an object's lists.
+    fn take_reports(&mut self, alloc: Global, object: &Value) -> Result<()> {
+        for (name, tag) in &LISTS {
+            check_list(object, name)?;
+            if let Some(Value::Array(reports)) = object.get(*name) {
+                for (report, place) in reports.iter().zip(0usize..) {
+                    self.add_report(alloc, report, name, place, *tag)?;
+                }
+            }
+        }
+        Ok(())
+    }
+
     /// Takes a report of the list with this name.
     fn add_report(
         &mut self,
@@ -188,14 +213,22 @@ fn read_report(alloc: Global, object: &Value, path: String, tag: u8) -> Result<R
         id: u8::try_from(number_of(object, "reportId", 0, 0xff)?)?,
         items: Vec::new(alloc),
     };
-    if let Some(Value::Array(items)) = object.get("items") {
-        for (item, place) in items.iter().zip(0usize..) {
-            let item = read_item(alloc, item, tag).context(format_args!("items[{place}]"))?;
-            report.items.push(item)?;
-        }
-    }
-    ensure!(!report.items.is_empty(), "items is empty");
+    report.take_items(alloc, object)?;
     Ok(report)
+}
+
+impl Report {
+    /// Takes the items of an object, of which it has one at least.
+    fn take_items(&mut self, alloc: Global, object: &Value) -> Result<()> {
+        if let Some(Value::Array(items)) = object.get("items") {
+            for (item, place) in items.iter().zip(0usize..) {
+                let item = read_item(alloc, item, self.tag);
+                self.items.push(item.context(format_args!("items[{place}]"))?)?;
+            }
+        }
+        ensure!(!self.items.is_empty(), "items is empty");
+        Ok(())
+    }
 }
 
 /// The item that an object says.

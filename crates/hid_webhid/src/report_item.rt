@@ -80,21 +80,26 @@ impl ReportItem {
             usages: Vec::new(alloc),
             bounds: Vec::new(alloc),
         };
+        item.take(object)?;
+        Ok(item)
+    }
+
+    /// Takes all that an object says.
+    fn take(&mut self, object: &Value) -> Result<()> {
         for (name, bit, is_set_where_false) in &FLAGS {
             if flag_of(object, name)? != *is_set_where_false {
-                item.flags |= *bit;
+                self.flags |= *bit;
             }
         }
         for (tag, name, least, most) in &GLOBALS {
-            item.globals.push(match *tag {
+            self.globals.push(match *tag {
                 EXPONENT => exponent_of(object)?,
                 UNIT => unit_of(object)?,
                 _ => number_of(object, name, *least, *most)?,
             })?;
         }
-        item.take_usages(object)?;
-        check_strings(object)?;
-        Ok(item)
+        self.take_usages(object)?;
+        check_strings(object)
     }
 
     /// Takes the usages: a list, a range, or a list beside a range.

@@ -61,16 +61,12 @@ pub fn descriptor_of(
     let mut writer = Writer::new(alloc, all)?;
     let mut open: Vec<Open> = Vec::new(alloc);
     for (own, place) in all.iter().zip(0usize..) {
-        writer.close_to(all, &mut open, own.depth)?;
-        writer.open(own)?;
         let entry = Open {
             place,
             placed: find_own(alloc, all, own)?,
             gap: 0,
         };
-        writer.tell_unsure(own, &entry.placed)?;
-        writer.add_runs(own, &entry)?;
-        open.push(entry)?;
+        writer.add(all, &mut open, own, entry)?;
     }
     writer.close_to(all, &mut open, 0)?;
     for (doubt, path) in writer.doubts.iter() {
@@ -98,6 +94,21 @@ impl Writer {
             is_mixed: is_mixed(all),
             doubts: Vec::new(alloc),
         })
+    }
+
+    /// Writes a collection up to its children, behind the end of those that don't hold it.
+    fn add(
+        &mut self,
+        all: &[Collection],
+        open: &mut Vec<Open>,
+        own: &Collection,
+        entry: Open,
+    ) -> Result<()> {
+        self.close_to(all, open, own.depth)?;
+        self.open(own)?;
+        self.tell_unsure(own, &entry.placed)?;
+        self.add_runs(own, &entry)?;
+        Ok(open.push(entry)?)
     }
 
     /// Writes a collection's usage, and its beginning.
