@@ -11,21 +11,12 @@ use hid_output::{add_json, flush, flush_piece};
 use hidreport::{Change, Direction, Field, OutlineReport, RDescReport, Report, ReportDescriptor};
 
 /// Shows the fields of a descriptor as JSON, and answers whether it has a report.
-pub(crate) fn show_objects<R: World>(
-    rt: &R,
-    settings: &Settings,
-    file: &str,
-) -> Result<bool> {
+pub(crate) fn show_objects<R: World>(rt: &R, settings: &Settings, file: &str) -> Result<bool> {
     let given = descriptor_named(rt, &unmended(settings), file)?;
     show_given(rt, settings, file, given.descriptor())
 }
 
-fn show_given<R: World>(
-    rt: &R,
-    settings: &Settings,
-    file: &str,
-    bytes: &[u8],
-) -> Result<bool> {
+fn show_given<R: World>(rt: &R, settings: &Settings, file: &str, bytes: &[u8]) -> Result<bool> {
     if settings.reads_as_linux() {
         let device = mended(rt, settings, file, bytes)?;
         return show_mended(rt, settings, device.bytes(), device.changes());

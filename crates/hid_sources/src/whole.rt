@@ -58,12 +58,7 @@ fn said(alloc: Global, text: &str, form: Form, wanted: Wanted, names: &[&str]) -
 }
 
 /// Takes the lines of a text, where these names are defined, and their end.
-fn take_lines(
-    lines: &mut FormLines,
-    found: &mut Found,
-    names: &[&str],
-    text: &str,
-) -> Result<()> {
+fn take_lines(lines: &mut FormLines, found: &mut Found, names: &[&str], text: &str) -> Result<()> {
     lines.define(names)?;
     for (number, line) in (1u64..).zip(text.lines()) {
         lines

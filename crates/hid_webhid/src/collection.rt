@@ -223,7 +223,8 @@ impl Report {
         if let Some(Value::Array(items)) = object.get("items") {
             for (item, place) in items.iter().zip(0usize..) {
                 let item = read_item(alloc, item, self.tag);
-                self.items.push(item.context(format_args!("items[{place}]"))?)?;
+                self.items
+                    .push(item.context(format_args!("items[{place}]"))?)?;
             }
         }
         ensure!(!self.items.is_empty(), "items is empty");

@@ -83,8 +83,7 @@ impl Compiled {
     /// Takes all lines of a text.
     fn take(&mut self, text: &str) -> Result<()> {
         for (line, number) in text.lines().zip(1usize..) {
-            self.add_text(line)
-                .context(format_args!("line {number}"))?;
+            self.add_text(line).context(format_args!("line {number}"))?;
         }
         Ok(())
     }
