@@ -165,7 +165,7 @@ impl Capture {
     /// Takes behind the last packet what is left: where reports are wanted, and one endpoint alone sent
     /// some, these are the reports; else it is said that they are left out.
     pub fn end(&mut self, found: &mut Found, wanted: GivenWanted) -> Result<()> {
-        let is_alone = found.devices.is_empty() && found.reports.is_empty();
+        let is_alone = found.devices.is_empty();
         Ok(
             self.strays
                 .end(found, is_alone && wanted == GivenWanted::Reports)?,

@@ -9,7 +9,7 @@ static GAPS: [&str; 2] = [":", "-"];
 pub fn is_byte_word(word: &str) -> bool {
     lone_digits(word).is_some()
         || is_escaped(unquoted(word))
-        || GAPS.iter().any(|gap| is_parted(word, *gap))
+        || GAPS.iter().any(|gap| are_pairs(word, *gap))
 }
 
 /// Appends the bytes of such a word.
@@ -21,7 +21,7 @@ pub fn add_byte_word(bytes: &mut Vec<u8>, word: &str) -> Result<bool, AllocError
         return add_escapes(bytes, unquoted(word));
     }
     for gap in &GAPS {
-        if is_parted(word, *gap) {
+        if are_pairs(word, *gap) {
             return add_parts(bytes, word, *gap);
         }
     }
@@ -84,11 +84,6 @@ fn unquoted(word: &str) -> &str {
 /// What stands between two of a mark.
 fn between<'a>(word: &'a str, mark: &str) -> Option<&'a str> {
     word.strip_prefix(mark)?.strip_suffix(mark)
-}
-
-/// Whether a word is pairs of digits with a mark between them.
-fn is_parted(word: &str, gap: &str) -> bool {
-    word.contains(gap) && are_pairs(word, gap)
 }
 
 /// Whether all parts of a word are pairs of digits.

@@ -26,7 +26,7 @@ impl<'a> LogLine<'a> {
             let (Some(before), Some(offset)) = (line.get(..start), line.get(start..colon)) else {
                 continue;
             };
-            if before.ends_with(" ") && offset.len() == DIGITS && is_digits(offset) {
+            if before.ends_with(" ") && is_digits(offset) {
                 let names = names_of(before);
                 let dump = line.get(start..)?;
                 return Some(LogLine { names, dump });
@@ -95,7 +95,7 @@ fn is_time(time: &str) -> bool {
 
 /// Whether a text is as `Nov 27 12:00:00`: where another has a digit, it has one.
 fn is_stamp(text: &str) -> bool {
-    text.len() == STAMP && has_shape(text, "aaa 00 00:00:00")
+    has_shape(text, "aaa 00 00:00:00")
 }
 
 /// Whether a text begins as `2026-11-27T12:00:00`.

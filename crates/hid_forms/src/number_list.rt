@@ -57,7 +57,6 @@ impl NumberList {
     pub fn take_comma(&mut self) -> Result<()> {
         ensure!(self.is_behind_number, "no number stands before a comma");
         self.is_behind_number = false;
-        self.may_lack_comma = false;
         Ok(())
     }
 
@@ -122,7 +121,6 @@ impl NumberList {
     pub fn taken(&mut self) -> Vec<u8> {
         let alloc = *self.bytes.allocator();
         self.is_behind_number = false;
-        self.may_lack_comma = false;
         self.has_signed = false;
         self.has_great = false;
         mem::replace(&mut self.bytes, Vec::new(alloc))

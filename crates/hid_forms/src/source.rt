@@ -216,7 +216,6 @@ impl SourceLines {
             behind
         };
         ensure!(matches!(end, "" | ";"), "something stands behind the list");
-        self.is_in_call = false;
         self.take_array(found)
     }
 
