@@ -8,6 +8,7 @@ mod fields;
 mod fitting;
 mod item_offsets;
 mod linux_fields;
+mod linux_shown;
 mod linux_usages;
 mod list;
 mod map;
