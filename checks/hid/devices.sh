@@ -89,7 +89,7 @@ wants 0 '/dev/hidraw63: last
 
 # A device by its node, its number, its ids, or a part of its name; a file of that name goes before.
 mouse=$("$program" convert "$data/mouse.hex" 2> said)
-for name in hidraw0 046d:c077 46D:C077 Optical; do
+for name in hidraw0 046d:c077 46D:C077 c077 Optical; do
     wants 0 "hid: $name: is /dev/hidraw0
 $mouse" convert --sysfs sys "$name"
 done
@@ -140,6 +140,11 @@ hid: hidraw10: No such file or directory (os error 2)' record --sysfs sys hidraw
 # What means several devices, or none; a descriptor that is refused; what isn't as Linux writes it.
 wants 1 'hid: Logitech: means hidraw0, hidraw10' convert --sysfs sys Logitech
 wants 1 'hid: event6: No such file or directory (os error 2)' convert --sysfs sys event6
+for name in wave 0000:c077; do
+    wants 1 "hid: $name: No such file or directory (os error 2)" convert --sysfs sys "$name"
+done
+# The product's four digits alone name a device, and no fewer.
+wants 1 'hid: 2: No such file or directory (os error 2)' convert --sysfs last 2
 wants 1 'hid: 046d:c078: No such file or directory (os error 2)' convert --sysfs sys 046d:c078
 wants 1 'hid: hidraw1: No such file or directory (os error 2)' convert --sysfs sys hidraw1
 wants 1 'hid: : No such file or directory (os error 2)' convert --sysfs mouse ''
@@ -174,6 +179,12 @@ wants 1 '{"node":"/dev/hidraw0","refused":"three/class/hidraw/hidraw0/device/uev
 device parts 0 '' 0003:0000046D:0000C077:0001 'a mouse' "$data/mouse.hex"
 wants 1 "/dev/hidraw0: refused: parts/class/hidraw/hidraw0/device/uevent: 0003:0000046D:0000C077:0001 isn't three numbers" \
     list --sysfs parts
+# A device without ids has none.
+device ids 0 '' 0003:0000046D:0000C077 'a mouse' "$data/mouse.hex"
+echo 'HID_NAME=a mouse' > ids/class/hidraw/hidraw0/device/uevent
+wants 0 '/dev/hidraw0: a mouse
+  bus 0000 0000:0000
+  Mouse: 1 input report' list --sysfs ids
 device four 0 '' 0003:0000046D:0000C077 'a mouse' "$data/mouse.hex"
 rm four/class/hidraw/hidraw0/device/report_descriptor
 wants 1 '/dev/hidraw0: a mouse

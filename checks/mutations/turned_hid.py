@@ -39,7 +39,7 @@ from sources import PAIRS, TOP, read, run, switch, text_of, write
 
 LISTED = f"{TOP}/checks/mutations/unturned_hid.txt"
 IS = "hid_planted::stands_at({})"
-# The scripts that are asked behind the runs, the quickest first.
+# The scripts that are asked behind the runs, the quickest first, where they look at a plant there.
 SCRIPTS = {it: plants.OF_PROGRAM[it] for it in ("devices", "rules", "names", "page")}
 # How long a run may compute with a turn, a script may take, and how much memory a run may have, in bytes.
 SECONDS, SCRIPT_SECONDS, MEMORY = 10, 300, 3 << 30
@@ -181,9 +181,10 @@ class Asker:
         for script in SCRIPTS:
             look_at(self.fails, script, self.by_script)
 
-    def tell(self, number):
+    def tell(self, number, file):
         runs = (at for _, at in sorted(self.by_run[number]))
-        scripts = (it for _, it in self.by_script[number])
+        looking = next(it.split() for begin, it in plants.LOOK if f"crates/{file}".startswith(begin))
+        scripts = (it for _, it in self.by_script[number] if it in looking)
         return any(self.goes_otherwise(at, number) for at in runs) or any(self.fails(it, number) for it in scripts)
 
 
@@ -203,7 +204,8 @@ def main():
         asker = Asker(program, scratch)
         asker.look(pool)
         silent = collections.Counter()
-        for number, is_told in zip(chosen, pool.map(asker.tell, chosen)):
+        files = [turns[number - 1][0] for number in chosen]
+        for number, is_told in zip(chosen, pool.map(asker.tell, chosen, files)):
             if not is_told:
                 silent[lines[number]] += 1
                 if words.write:

@@ -117,6 +117,8 @@ impl Capture {
         urb.whole()?;
         match request.wanted {
             Wanted::Configuration => self.take_configuration(urb),
+            // A device that isn't ready yet answers nothing, and is asked again.
+            Wanted::Report(_interface) if urb.data.is_empty() => Ok(()),
             Wanted::Report(interface) => take_descriptor(found, urb, interface),
         }
     }
