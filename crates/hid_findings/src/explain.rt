@@ -59,17 +59,21 @@ impl Explain {
             if self.rule.is_some() && self.rule != Some(*rule) {
                 continue;
             }
-            let row = rule.row();
-            if settings.is_json {
-                add_object(&mut text, row)?;
-            } else if self.rule.is_none() {
-                add_line(&mut text, row)?;
-            } else {
-                add_rule(&mut text, row)?;
-            }
+            self.add(&mut text, settings, rule.row())?;
         }
         flush(rt, &mut text)?;
         Ok(Ending::Done)
+    }
+
+    /// Appends what is shown of a rule.
+    fn add(&self, text: &mut String, settings: &Settings, row: &RuleRow) -> Result<()> {
+        if settings.is_json {
+            add_object(text, row)
+        } else if self.rule.is_none() {
+            add_line(text, row)
+        } else {
+            add_rule(text, row)
+        }
     }
 }
 
@@ -116,12 +120,18 @@ fn add_line(text: &mut String, row: &RuleRow) -> Result<()> {
 /// Appends all that is said of a rule.
 fn add_rule(text: &mut String, row: &RuleRow) -> Result<()> {
     add_line(text, row)?;
-    writeln!(text, "Why: {}", row.why)?;
-    writeln!(text, "Instead: {}", row.instead)?;
-    writeln!(text, "Source: {}", row.source.full_name())?;
+    let source = row.source.full_name();
+    writeln!(
+        text,
+        "Why: {}\nInstead: {}\nSource: {source}",
+        row.why, row.instead
+    )?;
     if let Some(host) = row.source.host() {
         writeln!(text, "Told by: hid check --for {host}")?;
     }
-    writeln!(text, "Example: {}", row.example)?;
-    Ok(writeln!(text, "Without it: {}", row.without)?)
+    Ok(writeln!(
+        text,
+        "Example: {}\nWithout it: {}",
+        row.example, row.without
+    )?)
 }
