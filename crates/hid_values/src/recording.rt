@@ -57,8 +57,8 @@ pub struct Recording<'a> {
     known: u64,
     unknown: u64,
     has_refused: bool,
-    /// The device of the last report.
-    device: usize,
+    /// Where the device of the last line of hid-recorder stands among the devices.
+    last_place: usize,
     text: String,
 }
 
@@ -84,7 +84,7 @@ impl<'a> Recording<'a> {
             known: 0,
             unknown: 0,
             has_refused: false,
-            device: 0,
+            last_place: given.devices.len().saturating_sub(1),
             text: front_of(alloc, shown, given)?,
         })
     }
@@ -124,18 +124,20 @@ impl<'a> Recording<'a> {
         report: &GivenReport,
         time: Duration,
     ) -> Result<bool> {
-        let place = self.given.place_of(form, report);
+        let Some(place) = self.given.place_of(form, report) else {
+            return Ok(false);
+        };
         if self.shown == Shown::Events {
             return self.show_events(rt, place, report, time);
         }
-        let Some(lines) = place.and_then(|place| self.lines.get_mut(place)) else {
-            return Ok(false);
-        };
         if self.shown == Shown::Raw {
-            self.add_device(report.device)?;
+            self.add_device(place)?;
             add_raw(&mut self.text, report, time)?;
             return Ok(true);
         }
+        let Some(lines) = self.lines.get_mut(place) else {
+            return Ok(false);
+        };
         let Some(own) = lines.report_of(&report.bytes) else {
             return Ok(false);
         };
@@ -161,7 +163,7 @@ impl<'a> Recording<'a> {
     fn show_events<R: AllocGlobal + Print + Eprint>(
         &mut self,
         rt: &R,
-        place: Option<usize>,
+        place: usize,
         report: &GivenReport,
         time: Duration,
     ) -> Result<bool> {
@@ -208,14 +210,14 @@ impl<'a> Recording<'a> {
     fn add_events<R: AllocGlobal + Eprint>(
         &mut self,
         rt: &R,
-        place: Option<usize>,
+        place: usize,
         report: &GivenReport,
         sent: Sent,
     ) -> Result<Option<Left>> {
-        let Some(descriptor) = place.and_then(|place| self.descriptors.get(place)) else {
+        let Some(descriptor) = self.descriptors.get(place) else {
             return Ok(Some(Left::Unknown));
         };
-        let Some(events) = place.and_then(|place| self.events.get_mut(place)) else {
+        let Some(events) = self.events.get_mut(place) else {
             return Ok(Some(Left::Unknown));
         };
         events.add(rt, &mut self.text, descriptor, &report.bytes, sent)
@@ -235,13 +237,18 @@ impl<'a> Recording<'a> {
         self.text.push_str(line)
     }
 
-    /// Appends a line of hid-recorder that names a device, where that is another than before.
-    fn add_device(&mut self, device: usize) -> Result<(), AllocError> {
-        if self.device == device {
+    /// Appends a line of hid-recorder that names the device at a place, where that is another than
+    /// before: the last one's head stands right before the first report.
+    fn add_device(&mut self, place: usize) -> Result<(), AllocError> {
+        let Some(device) = self.given.devices.get(place) else {
+            return Ok(());
+        };
+        if self.last_place == place {
             return Ok(());
         }
-        self.device = device;
-        writeln!(self.text, "D: {device}")
+        self.last_place = place;
+        let number = device.number;
+        writeln!(self.text, "D: {number}")
     }
 
     /// Says what wasn't shown.
