@@ -95,10 +95,11 @@ impl DataItem {
         tell(findings, Some(self.offset), &remark, Rule::OneValue)
     }
 
-    /// Notes that there are more usages than switches of one bit.
+    /// Notes that there are more usages than switches of one bit; alternatives are one control.
     fn tell_usages(&self, findings: &mut Vec<Finding>) -> Result<(), AllocError> {
         let (usages, count) = (self.usages.count, self.globals.count);
-        if usages <= count as u64 || self.globals.size != 1 || !self.is_variable {
+        let are_switches = self.globals.size == 1 && self.is_variable;
+        if usages <= count as u64 || !are_switches || self.usages.has_sets {
             return Ok(());
         }
         let s = plural(count);

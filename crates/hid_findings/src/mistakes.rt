@@ -54,12 +54,12 @@ fn tell_left_out(item: &DataItem, findings: &mut Vec<Finding>) -> Result<(), All
 }
 
 /// Notes a field of as many bits as there are usages, from 0 to 1: Report Size and Report Count are
-/// likely exchanged.
+/// likely exchanged. Alternatives are one control.
 fn tell_exchanged(item: &DataItem, findings: &mut Vec<Finding>) -> Result<(), AllocError> {
     let (low, high) = (item.globals.minimum, item.globals.maximum);
     let (size, count, usages) = (item.globals.size, item.globals.count, item.usages.count);
     let is_of_switches = low == 0 && high == 1 && 1 < size && size <= MOST_SWITCHES;
-    if !is_of_switches || count != 1 || usages != size as u64 {
+    if !is_of_switches || count != 1 || usages != size as u64 || item.usages.has_sets {
         return Ok(());
     }
     let remark = format!(in item.alloc;
