@@ -86,19 +86,19 @@ fn count(times: &mut [usize], first: usize, place: usize) {
     }
 }
 
-/// Whether two findings are of one rule, in the same words.
+/// Whether two findings are shown in the same words, which say the rule, by the same source.
 fn are_alike(findings: &[Finding], first: usize, place: usize) -> bool {
     match (findings.get(first), findings.get(place)) {
         (Some(first), Some(other)) => {
-            first.rule == other.rule && first.remark.as_str() == other.remark.as_str()
+            first.source == other.source && first.remark.as_str() == other.remark.as_str()
         }
         _ => false,
     }
 }
 
-/// A number for a finding's rule and words.
+/// A number for a finding's words and who says so.
 fn key_of(finding: &Finding) -> u64 {
-    let key = mixed(0, finding.rule.row().number);
+    let key = mixed(0, finding.source.name());
     mixed(key, &finding.remark)
 }
 
