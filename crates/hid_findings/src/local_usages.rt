@@ -52,11 +52,10 @@ impl LocalUsages {
     /// Goes over a maximum: below its minimum there are no usages.
     fn pass_end(&mut self, offset: usize, end: u32) {
         let behind = u64::from(end).saturating_add(1);
-        self.add(
-            offset,
-            behind.saturating_sub(u64::from(self.range_start)),
-            end,
-        );
+        let more = behind.saturating_sub(u64::from(self.range_start));
+        if more != 0 {
+            self.add(offset, more, end);
+        }
     }
 
     fn add(&mut self, offset: usize, more: u64, last: u32) {
