@@ -8,11 +8,13 @@ use hidreport::types::UsagePage;
 pub struct LocalUsages {
     /// How many there are.
     pub count: u64,
-    /// Where the first stands.
+    /// Where the first item of them stands: of a range its minimum.
     pub first_offset: usize,
     /// Whether some are alternatives.
     pub has_sets: bool,
     range_start: u32,
+    /// Where the minimum of a range stands, if there is one.
+    range_offset: Option<usize>,
     last: u32,
 }
 
@@ -24,6 +26,7 @@ impl LocalUsages {
             first_offset: 0,
             has_sets: false,
             range_start: 0,
+            range_offset: None,
             last: 0,
         }
     }
@@ -38,14 +41,11 @@ impl LocalUsages {
             LocalItem::UsageId(id) => self.add(offset, 1, u32::from(u16::from(id))),
             LocalItem::UsageMinimum(start) => {
                 self.range_start = u32::from(start);
-                self.add(offset, 0, self.last);
+                self.range_offset = Some(offset);
             }
             LocalItem::UsageMaximum(end) => self.pass_end(offset, u32::from(end)),
-            LocalItem::Delimiter(_) => {
-                self.has_sets = true;
-                self.add(offset, 0, self.last);
-            }
-            _ => self.add(offset, 0, self.last),
+            LocalItem::Delimiter(_) => self.has_sets = true,
+            _ => {}
         }
     }
 
@@ -54,12 +54,13 @@ impl LocalUsages {
         let behind = u64::from(end).saturating_add(1);
         let more = behind.saturating_sub(u64::from(self.range_start));
         if more != 0 {
-            self.add(offset, more, end);
+            self.add(self.range_offset.unwrap_or(offset), more, end);
         }
     }
 
+    /// Adds usages whose first item stands at an offset.
     fn add(&mut self, offset: usize, more: u64, last: u32) {
-        if self.count == 0 {
+        if self.count == 0 || offset < self.first_offset {
             self.first_offset = offset;
         }
         self.count = self.count.saturating_add(more);
