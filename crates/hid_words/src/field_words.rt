@@ -7,9 +7,6 @@ use hidreport::{ArrayField, Field, FieldAttributes, VariableField};
 use std::alloc::AllocError;
 use std::fmt::Write;
 
-/// How far behind its indentation a field's name begins.
-const NAME: usize = 12;
-
 /// Appends what a field is for: its usages, or that it is padding.
 pub fn add_name(text: &mut String, field: &Field) -> Result<(), AllocError> {
     add_wrapped_name(text, field, None)
@@ -45,11 +42,13 @@ fn add_wrapped_name(
     }
 }
 
-/// Appends a field's bits, its name, and how it is read; a long list goes on in lines that begin
-/// with so many spaces and as many as stand before the name.
+/// Appends a field's bits, its name, and how it is read, behind so many columns; a long list goes
+/// on in lines that begin where the name does.
 pub fn add_field(text: &mut String, field: &Field, indent: usize) -> Result<(), AllocError> {
+    let start = text.len();
     add_bits(text, field.bits().start, field.bits().end)?;
-    add_wrapped_name(text, field, Some(indent.saturating_add(NAME)))?;
+    let column = indent.saturating_add(text.len().saturating_sub(start));
+    add_wrapped_name(text, field, Some(column))?;
     text.push_str(", ")?;
     add_how(text, field)
 }
