@@ -151,7 +151,7 @@ fn add_fields(
         }
         let is_first = text.len() == start;
         let gap = if is_first { id } else { " " };
-        let is_next = !is_first && before == Some(name.as_str());
+        let is_next = before == Some(name.as_str());
         add_field(text, field, name, bytes, gap, is_next)?;
         before = Some(name.as_str());
     }

@@ -83,8 +83,7 @@ impl Compiled {
     /// Takes all lines of a text.
     fn take(&mut self, text: &str) -> Result<()> {
         for (line, number) in text.lines().zip(1usize..) {
-            self.add_text(line)
-                .context(format_args!("line {number}"))?;
+            self.add_text(line).context(format_args!("line {number}"))?;
         }
         Ok(())
     }
@@ -98,7 +97,7 @@ impl Compiled {
         };
         let text = without_remark(text).trim();
         let text = text.strip_suffix(",").unwrap_or(text);
-        if text.is_empty() || is_fault(text) {
+        if is_fault(text) {
             return Ok(());
         }
         self.add_line(line_of(text))
