@@ -2,7 +2,7 @@
 use hidreport::{ArrayField, Usage, VariableField};
 
 /// The most bits of a number.
-const WIDEST: usize = 32;
+pub const WIDEST: usize = 32;
 
 /// What the bytes say of a field with one value.
 #[derive(Clone, Copy, PartialEq)]
