@@ -104,7 +104,8 @@ impl<'a> ReportDiff<'a> {
     }
 }
 
-/// Whether two reports are the same but for their ids, and the byte that an id takes.
+/// Whether two reports are the same but for their ids, and the byte that an id takes: the fields of
+/// each lie side by side.
 pub fn id_alone_changed(
     alloc: Global,
     first: &RDescReport,
@@ -114,29 +115,17 @@ pub fn id_alone_changed(
     if own.len() != other.len() {
         return Ok(false);
     }
-    let (before, now) = (front_of(first), front_of(second));
     for (field, pair) in own.iter().zip(other.iter()) {
-        if !are_alike_but_for_ids(alloc, field, pair, before, now)? {
+        if !are_alike_but_for_ids(alloc, field, pair)? {
             return Ok(false);
         }
     }
     Ok(true)
 }
 
-/// The bits before a report's first field.
-fn front_of(report: &RDescReport) -> usize {
-    if report.report_id().is_some() { 8 } else { 0 }
-}
-
-fn are_alike_but_for_ids(
-    alloc: Global,
-    first: &Field,
-    second: &Field,
-    before: usize,
-    now: usize,
-) -> Result<bool, AllocError> {
+/// Whether two fields are the same but for their ids and where their bits lie.
+fn are_alike_but_for_ids(alloc: Global, first: &Field, second: &Field) -> Result<bool, AllocError> {
     let mut parts = String::new(alloc);
     add_changes(&mut parts, first, second)?;
-    let start = first.bits().start.saturating_sub(before);
-    Ok(parts.is_empty() && start == second.bits().start.saturating_sub(now))
+    Ok(parts.is_empty())
 }

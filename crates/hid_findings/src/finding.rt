@@ -86,7 +86,7 @@ fn count(times: &mut [usize], first: usize, place: usize) {
     }
 }
 
-/// Whether two findings are shown in the same words, which say the rule, and who says so is the same.
+/// Whether two findings are shown in the same words, which say the rule, by the same source.
 fn are_alike(findings: &[Finding], first: usize, place: usize) -> bool {
     match (findings.get(first), findings.get(place)) {
         (Some(first), Some(other)) => {

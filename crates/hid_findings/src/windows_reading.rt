@@ -113,7 +113,6 @@ impl WindowsReading {
             MainItem::Feature(item) => self.pass_data(offset, item.flags())?,
         }
         self.usages = LocalUsages::new();
-        self.is_in_set = false;
         Ok(())
     }
 

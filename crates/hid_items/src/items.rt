@@ -95,8 +95,6 @@ pub struct Globals {
     pub size: usize,
     /// The number of fields.
     pub count: usize,
-    /// Whether reports have an id from here on.
-    pub has_report_id: bool,
     /// The report's id, or 0.
     pub report_id: u8,
     /// The unit.
@@ -131,7 +129,6 @@ impl ItemState {
                 exponent: 0,
                 size: 0,
                 count: 0,
-                has_report_id: false,
                 report_id: 0,
                 unit: 0,
                 unit_offset: 0,
@@ -188,10 +185,7 @@ impl ItemState {
             GlobalItem::UnitExponent(number) => globals.exponent = number.exponent(),
             GlobalItem::ReportSize(number) => globals.size = usize::from(number),
             GlobalItem::ReportCount(number) => globals.count = usize::from(number),
-            GlobalItem::ReportId(id) => {
-                globals.has_report_id = true;
-                globals.report_id = u8::from(id);
-            }
+            GlobalItem::ReportId(id) => globals.report_id = u8::from(id),
             GlobalItem::Unit(unit) => {
                 globals.unit = u32::from(unit);
                 globals.unit_offset = offset;

@@ -93,7 +93,7 @@ impl StoodUsages {
             return Ok(None);
         };
         let (hosts, standard) = (self.moved_by_hosts(page), self.moved_by_standard(page));
-        if !self.is_known || hosts == 0 && standard == 0 {
+        if !self.is_known || standard == 0 {
             return Ok(None);
         }
         let mut text = String::new(alloc);

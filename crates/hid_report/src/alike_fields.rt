@@ -26,12 +26,12 @@ impl<'a> AlikeFields<'a> {
         }
     }
 
-    /// The same with one field more, where it begins behind them and is alike.
+    /// The same with the next field, where it is alike.
     pub fn with(self, field: &Field) -> Option<AlikeFields<'a>> {
         let (Field::Variable(first), Field::Variable(next)) = (self.first, field) else {
             return None;
         };
-        if next.bits.start != self.end || !are_alike(first, next) {
+        if !are_alike(first, next) {
             return None;
         }
         Some(AlikeFields {

@@ -110,8 +110,8 @@ fn bits_of(block: &[FieldLine]) -> Option<Range<usize>> {
     Some(start..end)
 }
 
-/// How often the first lines, so many, stand once more right behind themselves: equal but for the
-/// bits, which are as far behind as the block is long, inside collections that stay open.
+/// How often the first lines, so many, stand once more right behind themselves: equal but for where
+/// their bits lie, with fields at their end, inside collections that stay open.
 fn count_of(lines: &[FieldLine], length: usize) -> usize {
     let Some((block, rest)) = lines.split_at_checked(length) else {
         return 0;
@@ -122,17 +122,13 @@ fn count_of(lines: &[FieldLine], length: usize) -> usize {
     if !first.is_like(*again) {
         return 0;
     }
-    let Some(bits) = bits_of(block) else {
-        return 0;
-    };
     let depth = first.depth();
-    if block.iter().any(|line| line.depth() < depth) {
+    if bits_of(block).is_none() || block.iter().any(|line| line.depth() < depth) {
         return 0;
     }
     let mut count = 0usize;
     for next in rest.chunks(length) {
-        let moved = bits.len().saturating_mul(count.saturating_add(1));
-        if !is_again(block, next, moved) {
+        if !is_again(block, next) {
             return count;
         }
         count = count.saturating_add(1);
@@ -140,21 +136,11 @@ fn count_of(lines: &[FieldLine], length: usize) -> usize {
     count
 }
 
-/// Whether lines are those of a block, with bits that lie so far behind.
-fn is_again(block: &[FieldLine], next: &[FieldLine], moved: usize) -> bool {
+/// Whether lines are those of a block, but for where their bits lie.
+fn is_again(block: &[FieldLine], next: &[FieldLine]) -> bool {
     block.len() == next.len()
-        && block.iter().zip(next.iter()).all(|(line, again)| line.is_like(*again)
-            && is_moved(*line, *again, moved))
-}
-
-/// Whether a line's bits lie so far behind those of another.
-fn is_moved(line: FieldLine, again: FieldLine, moved: usize) -> bool {
-    match (line.bits(), again.bits()) {
-        (Some(bits), Some(others)) => {
-            bits.start.saturating_add(moved) == others.start
-                && bits.end.saturating_add(moved) == others.end
-        }
-        (None, None) => true,
-        _ => false,
-    }
+        && block
+            .iter()
+            .zip(next.iter())
+            .all(|(line, again)| line.is_like(*again))
 }

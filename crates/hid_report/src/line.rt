@@ -1,6 +1,6 @@
 //! A report's values in one line, by names that are made once.
 use crate::choices::add_choices;
-use crate::reading::{Amount, amount_of, choice_of, element_width, readable};
+use crate::reading::{Amount, WIDEST, amount_of, choice_of, element_width, readable};
 use hid_words::add_name_on_page;
 use hidreport::{ArrayField, Field, RDescReport, Report, ReportDescriptor, VariableField};
 use std::alloc::{AllocError, Global};
@@ -151,7 +151,7 @@ fn add_fields(
         }
         let is_first = text.len() == start;
         let gap = if is_first { id } else { " " };
-        let is_next = !is_first && before == Some(name.as_str());
+        let is_next = before == Some(name.as_str());
         add_field(text, field, name, bytes, gap, is_next)?;
         before = Some(name.as_str());
     }
@@ -189,10 +189,11 @@ fn is_as_before(field: &Field, last: Option<&[u8]>, bytes: &[u8]) -> bool {
     }
 }
 
-/// Whether all elements are as they were.
+/// Whether all elements are as they were; those of too many bits aren't compared.
 fn are_elements_as_before(field: &ArrayField, last: &[u8], bytes: &[u8]) -> bool {
     let count = readable(field, bytes);
-    count == readable(field, last)
+    element_width(field) <= WIDEST
+        && count == readable(field, last)
         && (0..count).all(|index| choice_of(field, last, index) == choice_of(field, bytes, index))
 }
 
@@ -230,7 +231,7 @@ fn add_array(
 ) -> Result<(), AllocError> {
     write!(text, "{gap}{name}=[")?;
     let width = element_width(field);
-    if 32 < width {
+    if WIDEST < width {
         return write!(text, "({width} bits)]");
     }
     add_choices(text, field, bytes, "", false)?;

@@ -2,7 +2,7 @@
 use hidreport::{ArrayField, Usage, VariableField};
 
 /// The most bits of a number.
-const WIDEST: usize = 32;
+pub const WIDEST: usize = 32;
 
 /// What the bytes say of a field with one value.
 #[derive(Clone, Copy, PartialEq)]
@@ -22,8 +22,7 @@ pub fn amount_of(field: &VariableField, bytes: &[u8]) -> Amount {
     if let Ok(value) = field.extract(bytes) {
         return Amount::Number(i64::from(value));
     }
-    let width = field.bits.len();
-    if WIDEST < width && field.bits.end.div_ceil(8) <= bytes.len() {
+    if field.bits.end.div_ceil(8) <= bytes.len() {
         return Amount::TooWide;
     }
     Amount::Missing

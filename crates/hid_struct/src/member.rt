@@ -90,7 +90,7 @@ fn member_of<'a>(
     width: usize,
     count: usize,
 ) -> Member<'a> {
-    let is_number = 0 < width && width <= WIDEST;
+    let is_number = width <= WIDEST;
     let is_array = matches!(field, Field::Array(_)) || count != 1;
     let shape = match (is_number, is_array) {
         (true, false) => Shape::Number,

@@ -36,7 +36,7 @@ fn add_lines(
     let most = COLUMNS.saturating_sub(indent.saturating_add(first.len()).saturating_add(end.len()));
     for word in words.split_whitespace() {
         let taken = text.len().saturating_sub(start);
-        if taken != 0 && most < taken.saturating_add(word.len()).saturating_add(1) {
+        if most < taken.saturating_add(word.len()).saturating_add(1) {
             text.push_str("\n")?;
             add_spaces(text, indent)?;
             text.push_str(next)?;

@@ -179,9 +179,9 @@ fn is_read(field: &LinuxField) -> bool {
     field.report.direction == Direction::Input && !field.is_past
 }
 
-/// Whether input reports have an id.
+/// Whether reports have an id: all, or none, where their events are known.
 fn has_ids(reading: &LinuxReading) -> bool {
-    reading.reports().iter().any(|report| report.direction == Direction::Input && report.id != 0)
+    reading.reports().iter().any(|report| report.id != 0)
 }
 
 /// Whether the usages of input reports have events of more than one input device.

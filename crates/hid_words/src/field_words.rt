@@ -42,8 +42,8 @@ fn add_wrapped_name(
     }
 }
 
-/// Appends a field's bits, its name, and how it is read, behind so many columns; a long list goes on
-/// in lines that begin where the name does.
+/// Appends a field's bits, its name, and how it is read, behind so many columns; a long list goes
+/// on in lines that begin where the name does.
 pub fn add_field(text: &mut String, field: &Field, indent: usize) -> Result<(), AllocError> {
     let start = text.len();
     add_bits(text, field.bits().start, field.bits().end)?;

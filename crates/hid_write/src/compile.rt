@@ -97,7 +97,7 @@ impl Compiled {
         };
         let text = without_remark(text).trim();
         let text = text.strip_suffix(",").unwrap_or(text);
-        if text.is_empty() || is_fault(text) {
+        if is_fault(text) {
             return Ok(());
         }
         self.add_line(line_of(text))
