@@ -1,5 +1,4 @@
 //! `hid fields --json`: each field as JSON, with the offset of its item.
-use crate::fields::has_report;
 use crate::item_offsets::{ItemOffsets, unmended};
 use anyhow::Result;
 use hid_input::input::descriptor_named;
@@ -104,4 +103,11 @@ fn show_fields<R: Print>(
         flush_piece(rt, text)?;
     }
     Ok(())
+}
+
+/// Whether a descriptor has a report in any direction.
+pub(crate) fn has_report(descriptor: &ReportDescriptor) -> bool {
+    Direction::ALL
+        .iter()
+        .any(|direction| !descriptor.reports(*direction).is_empty())
 }

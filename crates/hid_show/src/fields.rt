@@ -1,5 +1,5 @@
 //! `hid fields`: the reports of a descriptor with their fields, inside their collections.
-use crate::field_objects::show_objects;
+use crate::field_objects::{has_report, show_objects};
 use crate::fitting::add_fitted;
 use crate::linux_fields::show_linux;
 use anyhow::Result;
@@ -20,13 +20,6 @@ pub struct Fields<'a> {
     pub shows_each: bool,
     /// Whether each field has the event codes of Linux behind it.
     pub shows_linux: bool,
-}
-
-/// Whether a descriptor has a report in any direction.
-pub(crate) fn has_report(descriptor: &ReportDescriptor) -> bool {
-    Direction::ALL
-        .iter()
-        .any(|direction| !descriptor.reports(*direction).is_empty())
 }
 
 impl<'a> Fields<'a> {
