@@ -134,6 +134,12 @@ def squeezed(text):
     return re.sub(r"\s", "", text)
 
 
+def name_in(field):
+    """What a field is called among others: by its usage; an array by its page, padding by a dash."""
+    page, _, name = field["name"].partition(" / ")
+    return {"padding": "-", "variable": name, "array": page.rpartition(": ")[2]}[field["kind"]]
+
+
 def look_at_lines(about, page, words):
     """The lines of reports and fields are those of `hid fields --all`."""
     text, count = "", 0
@@ -149,6 +155,7 @@ def look_at_lines(about, page, words):
             field = fields[count]
             text += f"{line['start']}..{line['end']} {field['name']}, {line['how']}\n"
             same(f"{about}: bits", [field["start"], field["end"]], [line["start"], line["end"]])
+            same(f"{about}: name", name_in(field), line["name"])
             count += 1
     same(f"{about}: fields in lines", len(fields), count)
     same(f"{about}: lines", squeezed(run("fields", "--all", *words)), squeezed(text))
