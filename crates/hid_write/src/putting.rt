@@ -65,7 +65,7 @@ fn null_of(field: &VariableField) -> Option<i64> {
 
 /// Whether so many bits, if they are read as a number, hold this one.
 fn holds(width: usize, is_signed: bool, number: i64) -> bool {
-    width <= 32 && fits(width, is_signed, number)
+    0 < width && width <= 32 && fits(width, is_signed, number)
 }
 
 /// Puts a number into a field, or a key into the next element of an array: by 1 it is pressed, by 0
