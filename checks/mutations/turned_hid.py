@@ -39,8 +39,9 @@ from sources import PAIRS, TOP, read, run, switch, text_of, write
 
 LISTED = f"{TOP}/checks/mutations/unturned_hid.txt"
 IS = "hid_planted::stands_at({})"
-# The scripts that are asked behind the runs, the quickest first, where they look at a plant there.
-SCRIPTS = {it: plants.OF_PROGRAM[it] for it in ("uhid", "devices", "rules", "names", "page")}
+# The scripts that are asked behind the runs, the quickest first, where they look at a plant there. (What
+# page.sh looks at isn't asked: it takes a quarter of a minute.)
+SCRIPTS = {it: plants.OF_PROGRAM[it] for it in ("uhid", "devices", "rules", "names")}
 # How long a run may compute with a turn, a script may take, and how much memory a run may have, in bytes.
 SECONDS, SCRIPT_SECONDS, MEMORY = 10, 300, 3 << 30
 # What no statement begins with that may be left out.
