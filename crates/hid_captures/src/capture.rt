@@ -178,10 +178,9 @@ impl Capture {
 /// What a setup packet asks for: GET_DESCRIPTOR of a configuration, or of an interface's report
 /// descriptor.
 fn wanted_by(setup: &[u8]) -> Option<Wanted> {
-    let kind = (*setup.first()?, *setup.get(1)?, *setup.get(3)?);
-    match kind {
-        (0x80, 6, 0x02) => Some(Wanted::Configuration),
-        (0x81, 6, 0x22) => Some(Wanted::Report(*setup.get(4)?)),
+    match setup {
+        [0x80, 6, _, 0x02, ..] => Some(Wanted::Configuration),
+        [0x81, 6, _, 0x22, interface, ..] => Some(Wanted::Report(*interface)),
         _ => None,
     }
 }

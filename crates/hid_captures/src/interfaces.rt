@@ -27,8 +27,8 @@ pub struct Endpoint {
 
 /// How many bytes a configuration says that it has.
 pub fn total_length(bytes: &[u8]) -> Option<usize> {
-    let (low, high) = (*bytes.get(2)?, *bytes.get(3)?);
-    Some(usize::from(u16::from_le_bytes([low, high])))
+    let number = *bytes.get(2..)?.first_chunk::<2>()?;
+    Some(usize::from(u16::from_le_bytes(number)))
 }
 
 /// Appends the endpoints of a device's configuration, up to a descriptor that is cut short.
