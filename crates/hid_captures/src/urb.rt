@@ -19,8 +19,7 @@ pub enum Link {
     Usbpcap,
 }
 
-/// The stages of a control transfer that are told apart of those that USBPcap has: what is asked for,
-/// and the answer at once.
+/// Two of USBPcap's stages of a control transfer: it is asked for, and it is answered at once.
 const SETUP: u8 = 0;
 
 const COMPLETE: u8 = 3;
