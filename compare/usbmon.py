@@ -230,6 +230,24 @@ def other():
     return mon
 
 
+def flagged():
+    """A mouse, before whose descriptor a keyboard's stands: asked for by a setup packet that isn't there,
+    in an answer that failed, and in one without data. The endpoint stands behind what is no descriptor."""
+    mon = Mon()
+    for flag, place, more in ((14, -2, {}), (None, None, {"status": -71}), (15, -1, {"length": 0})):
+        mon.descriptor(3, 0, digits("keyboard.hex"), **more)
+        if flag:
+            packet = bytearray(mon.packets[place])
+            packet[flag] = ord("-" if flag == 14 else "<")
+            mon.packets[place] = bytes(packet)
+    body = bytes([9, 4, 0, 0, 1, 3, 0, 0, 0]) + bytes([1]) + bytes([7, 5, 0x81, 3, 8, 0, 10])
+    whole = struct.pack("<BBHBBBBB", 9, 2, 9 + len(body), 1, 1, 0, 0xa0, 50) + body
+    mon.asked(3, struct.pack("<BBHHH", 0x80, 6, 0x0200, 0, len(whole)), whole)
+    mon.descriptor(3, 0, digits("mouse.hex"))
+    mon.report(3, 0x81, bytes([1, 5, 0xfb]))
+    return mon
+
+
 def files():
     """The captures by their names."""
     mon = mouse()
@@ -280,6 +298,7 @@ def files():
     yield "sections.pcapng", mon.pcapng() + mouse(">", 189, 2).pcapng()
     yield "part.pcap", part().pcap()
     yield "other.pcap", other().pcap()
+    yield "flagged.pcap", flagged().pcap()
     yield "ends.pcapng", mon.pcapng()[:-4] + bytes([28, 0, 0, 0])
     yield "none.pcapng", mon.section()[:28] + mon.block(6, bytes(20) + bytes(64))
     yield "old.pcapng", mon.section() + mon.block(2, bytes(20))

@@ -89,7 +89,7 @@ wants 0 '/dev/hidraw63: last
 
 # A device by its node, its number, its ids, or a part of its name; a file of that name goes before.
 mouse=$("$program" convert "$data/mouse.hex" 2> said)
-for name in hidraw0 046d:c077 46D:C077 c077 Optical; do
+for name in hidraw0 046d:c077 46D:C077 c077 Optical event4 event12; do
     wants 0 "hid: $name: is /dev/hidraw0
 $mouse" convert --sysfs sys "$name"
 done
@@ -132,6 +132,9 @@ recorded '10\n' sys "${asks}/dev/hidraw10: No such file or directory (os error 2
 recorded '1\n' sys "${asks}'1' is none of the numbers"
 recorded '\0377x' sys "${asks}'?x' is none of the numbers"
 recorded '' sys "${asks}'' is none of the numbers"
+# The first line says it, of which 16 letters are looked at.
+recorded '2\n10\n' sys "${asks}/dev/hidraw2: No such file or directory (os error 2)"
+recorded 'the second of them\n' sys "${asks}'the second of th' is none of the numbers"
 mkdir none_at_all
 recorded '0\n' none_at_all 'hid: record: the machine has no HID device'
 wants 1 'hid: hidraw10: is /dev/hidraw10
@@ -167,6 +170,16 @@ wants 1 '/dev/hidraw1: a �
   refused: Linux refuses it at offset 0: an End Collection without a collection' list --sysfs refused
 wants 1 '{"node":"/dev/hidraw1","name":"a �","bus":3,"vendor":1133,"product":49271,"driver":"hid-generic","input":[],"applications":null,"reports":null,"refused":"Linux refuses it at offset 0: an End Collection without a collection"}' \
     list --json --sysfs refused
+wants 1 '/dev/hidraw1: a �
+  USB 046d:c077, driver hid-generic
+  refused: refused at offset 0: Too many EndCollection' list --as standard --sysfs refused
+# Files in place of folders.
+mkdir -p files/class/hidraw/hidraw0
+echo > files/class/hidraw/hidraw0/device
+wants 1 '/dev/hidraw0: refused: Not a directory (os error 20)' list --sysfs files
+device input 0 '' 0003:0000046D:0000C077 'a mouse' "$data/mouse.hex"
+echo > input/class/hidraw/hidraw0/device/input
+wants 1 'hid: list: Not a directory (os error 20)' list --sysfs input
 device three 0 '' 0003:0000046D 'a mouse' "$data/mouse.hex"
 device three 1 '' 0003:0000046D:0000C077 'a mouse' "$data/mouse.hex"
 wants 1 "/dev/hidraw0: refused: three/class/hidraw/hidraw0/device/uevent: HID_ID isn't three numbers

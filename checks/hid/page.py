@@ -303,12 +303,13 @@ def look_at_reports(folder):
 
 
 def look_at_words(folder):
-    """What stands beside numbers: one outside of its bounds, keys of which none is held; a report to
-    a keyboard is the second of its descriptor, and one of 12 bits has as many."""
+    """What stands beside numbers: one outside of its bounds, keys of which none is held or two are; a
+    report to a keyboard is the second of its descriptor, and one of 12 bits has as many."""
     stream = os.path.join(folder, "words.reports")
     for name, direction, digits, place, words in (
             ("mouse", "input", "00 80 00", 0, [""] * 4 + ["-128, outside of -127 to 127", ""]),
             ("keyboard", "input", "00 " * 8, 0, [""] * 9 + ["none"]),
+            ("keyboard", "input", "00 00 04 05 00 00 00 00", 0, [""] * 9 + ["Keyboard A, Keyboard B"]),
             ("keyboard", "output", "01", 1, [""] * 6)):
         with open(stream, "w", encoding="utf-8") as out:
             out.write(digits)

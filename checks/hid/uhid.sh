@@ -169,4 +169,7 @@ status=0
 [ "$status" -eq 1 ] && [ "$(stat -c %s "$scratch/output")" -eq $((3 * 4380)) ] &&
     [ "$(tail -n 1 "$scratch/said")" = "hid: 1 report isn't of this descriptor" ] ||
     wrong "of a report of another device it says $(cat "$scratch/said")"
-echo "hid_uhid: $((answers + 2)) answers as by linux/uhid.h"
+! "$program" uhid --quiet "$scratch/others" > "$scratch/quiet" 2> "$scratch/said" &&
+    cmp "$scratch/output" "$scratch/quiet" && [ ! -s "$scratch/said" ] ||
+    wrong "of a report of another device it says, where no notes are wanted, $(cat "$scratch/said")"
+echo "hid_uhid: $((answers + 3)) answers as by linux/uhid.h"

@@ -112,6 +112,7 @@ LOOK = [
     ("crates/hid_report/", "runs texts page"),
     ("crates/hid_objects/", "runs events page"),
     ("crates/hid_show/", "runs devices events texts"),
+    ("crates/hid_values/src/choosing", "runs devices texts"),
     ("crates/hid_values/", "runs texts"),
     ("crates/hid_macros/", "runs texts"),
     ("crates/hid_targets/", "runs webhid texts"),

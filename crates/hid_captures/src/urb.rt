@@ -19,11 +19,8 @@ pub enum Link {
     Usbpcap,
 }
 
-/// The stages of a control transfer that USBPcap tells apart: what is asked for, and that it is
-/// confirmed; behind the first the data come, or all at once.
+/// Two of USBPcap's stages of a control transfer: it is asked for, and it is answered at once.
 const SETUP: u8 = 0;
-
-const STATUS: u8 = 2;
 
 const COMPLETE: u8 = 3;
 
@@ -91,7 +88,7 @@ impl<'a> Urb<'a> {
         let is_answer = *head.get(16)? & 1 == 1;
         let kind = *head.get(22)?;
         let stage = head.get(27).copied().unwrap_or(COMPLETE);
-        let is_good = order.u32_at(head, 10)? == 0 && (kind != CONTROL || stage != STATUS);
+        let is_good = order.u32_at(head, 10)? == 0;
         Some(Urb {
             id: order.u64_at(head, 2)?,
             event: match (is_answer, is_good) {

@@ -151,8 +151,7 @@ impl DataItem {
     /// Whether there are usages of no vendor, the last one with a meaning, and no alternatives.
     pub fn has_known_usages(&self) -> bool {
         let last = self.usages.last(self.globals.page);
-        self.usages.count > 0
-            && !self.usages.has_sets
+        !self.usages.has_sets
             && u16::from(last.usage_page) < VENDOR_PAGE
             && u16::from(last.usage_id) != 0
     }

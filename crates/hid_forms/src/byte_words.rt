@@ -8,7 +8,7 @@ static GAPS: [&str; 2] = [":", "-"];
 /// Whether a word is bytes in one of these shapes.
 pub fn is_byte_word(word: &str) -> bool {
     lone_digits(word).is_some()
-        || is_escaped(unquoted(word))
+        || escaped_digits(unquoted(word)).is_some()
         || GAPS.iter().any(|gap| are_pairs(word, *gap))
 }
 
@@ -17,8 +17,8 @@ pub fn add_byte_word(bytes: &mut Vec<u8>, word: &str) -> Result<bool, AllocError
     if let Some(digits) = lone_digits(word) {
         return add_digits(bytes, digits);
     }
-    if is_escaped(unquoted(word)) {
-        return add_escapes(bytes, unquoted(word));
+    if let Some(digits) = escaped_digits(unquoted(word)) {
+        return add_parts(bytes, digits, "\\x");
     }
     for gap in &GAPS {
         if are_pairs(word, *gap) {
@@ -58,19 +58,13 @@ fn without_suffix(word: &str) -> Option<&str> {
     }
 }
 
-/// Whether a text is escapes alone.
-fn is_escaped(text: &str) -> bool {
-    match text.strip_prefix("\\x") {
-        Some(rest) => are_pairs(rest, "\\x"),
-        None => false,
-    }
-}
-
-/// Appends the bytes that a text's escapes write, and answers whether it is escapes alone.
-fn add_escapes(bytes: &mut Vec<u8>, text: &str) -> Result<bool, AllocError> {
-    match text.strip_prefix("\\x") {
-        Some(rest) if are_pairs(rest, "\\x") => add_parts(bytes, rest, "\\x"),
-        _ => Ok(false),
+/// What stands behind the first `\x` of a text that is escapes alone.
+fn escaped_digits(text: &str) -> Option<&str> {
+    let rest = text.strip_prefix("\\x")?;
+    if are_pairs(rest, "\\x") {
+        Some(rest)
+    } else {
+        None
     }
 }
 
@@ -92,12 +86,10 @@ fn are_pairs(word: &str, gap: &str) -> bool {
         .all(|part| is_digits(part) && part.len() == 2)
 }
 
-/// Appends the bytes of the parts of a word.
+/// Appends the bytes of the parts of a word, which are pairs of digits.
 fn add_parts(bytes: &mut Vec<u8>, word: &str, gap: &str) -> Result<bool, AllocError> {
     for part in word.split(gap) {
-        if !add_digits(bytes, part)? {
-            return Ok(false);
-        }
+        let _is_byte = add_digits(bytes, part)?;
     }
     Ok(true)
 }

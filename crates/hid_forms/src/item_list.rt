@@ -286,9 +286,7 @@ fn owed_behind(owed: usize, word: &str, bytes: &[u8]) -> Result<usize> {
         return Ok(owed.saturating_sub(1));
     }
     ensure!(owed == 0, "the item before {word} lacks data");
-    if arguments != Arguments::Size {
-        return Ok(0);
-    }
+    // A macro that writes data, too, writes more bytes than one.
     Ok(match bytes {
         [first] if first & 3 == 3 => 4,
         [first] => usize::from(first & 3),
@@ -303,9 +301,6 @@ fn name_of(word: &str) -> &str {
 
 /// Whether the macro with this name ends in a comma of its own.
 fn ends_in_comma(name: &str) -> bool {
-    if is_of_usage(name) {
-        return true;
-    }
     match Macro::named(name) {
         Some(known) => known.arguments.end_in_comma(),
         None => false,

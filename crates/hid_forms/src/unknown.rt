@@ -27,9 +27,6 @@ pub fn likest(line: &str) -> Option<&'static str> {
 /// The front of a line, where it is long.
 pub fn shortened(line: &str) -> &str {
     let line = line.trim();
-    if line.len() <= SHOWN {
-        return line;
-    }
     for end in [SHOWN, SHOWN - 1, SHOWN - 2, SHOWN - 3] {
         if let Some(front) = line.get(..end) {
             return front;

@@ -129,25 +129,22 @@ fn add_words(
     Ok(())
 }
 
-/// What stands behind the bits that a line begins with; none where it begins otherwise.
+/// What stands behind the bits that a line begins with, which alone are written with two points;
+/// none where it begins otherwise.
 fn name_of(line: &str) -> Option<&str> {
-    let (start, behind) = line.trim_start().split_once("..")?;
+    let (_start, behind) = line.split_once("..")?;
     let name = behind.trim_start_matches(|letter: char| letter.is_ascii_digit());
-    let is_bits = !start.is_empty() && start.bytes().all(|byte| byte.is_ascii_digit());
-    if is_bits && name.len() < behind.len() {
-        return Some(name.trim_start());
-    }
-    None
+    Some(name.trim_start())
 }
 
 /// A field's name and what stands behind it, in so many columns if the name has enough of them; the
-/// usages of a list stay.
+/// usages of a list stay, and so does what says that fields stand again.
 fn with_short_name(alloc: Global, text: &str, room: usize) -> Result<String, AllocError> {
     let end = end_of_name(text);
     let (Some(name), Some(rest)) = (text.get(..end), text.get(end..)) else {
         return String::from_str(alloc, text);
     };
-    if rest.is_empty() || name.contains(", ") {
+    if text.ends_with(" further") || name.contains(", ") {
         return String::from_str(alloc, text);
     }
     let room = room.saturating_sub(rest.width()).max(LEAST);
@@ -158,8 +155,8 @@ fn with_short_name(alloc: Global, text: &str, room: usize) -> Result<String, All
 
 /// Where a field's name ends: before a comma and how many bits it has.
 fn end_of_name(text: &str) -> usize {
-    for (place, letter) in text.char_indices() {
-        if letter == ',' && text.get(place..).is_some_and(is_width) {
+    for (place, _letter) in text.char_indices() {
+        if text.get(place..).is_some_and(is_width) {
             return place;
         }
     }
@@ -172,8 +169,7 @@ fn is_width(text: &str) -> bool {
         return false;
     };
     let behind = text.trim_start_matches(|letter: char| letter.is_ascii_digit());
-    behind.len() < text.len()
-        && (behind.starts_with(" bit") || behind.starts_with(" ×") || behind.starts_with(" of "))
+    behind.starts_with(" bit") || behind.starts_with(" ×") || behind.starts_with(" of ")
 }
 
 /// A name in so many columns: first its page is shortened, then its usage.

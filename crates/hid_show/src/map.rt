@@ -98,7 +98,7 @@ fn add_report(
 ) -> Result<usize, AllocError> {
     let alloc = *text.allocator();
     let (rows, left_out) = rows_of(alloc, report, most)?;
-    let front = front_of(alloc, columns, &rows)?;
+    let front = front_of(alloc, &rows)?;
     let width = width_of(columns, front);
     text.push_str("\n")?;
     add_spaces(
@@ -121,13 +121,11 @@ fn add_report(
     Ok(most.saturating_sub(rows.len()))
 }
 
-/// How many columns the numbers of bytes have, where lines are bounded those of the widest.
-fn front_of(alloc: Global, columns: Option<usize>, rows: &[Row]) -> Result<usize, AllocError> {
+/// How many columns the numbers of bytes have: those of the widest.
+fn front_of(alloc: Global, rows: &[Row]) -> Result<usize, AllocError> {
     let mut front = FRONT;
-    if columns.is_some() {
-        for row in rows {
-            front = front.max(row.bytes(alloc)?.len());
-        }
+    for row in rows {
+        front = front.max(row.bytes(alloc)?.len());
     }
     Ok(front)
 }

@@ -167,9 +167,6 @@ fn guessed(alloc: Global, text: &str) -> Result<Form> {
 
 /// Whether a line is in a remark that may go on over lines, or has nothing beside it.
 fn is_remark(alloc: Global, remarks: &mut Remarks, line: &str) -> Result<bool> {
-    if !remarks.may_be_in(line) {
-        return Ok(false);
-    }
     let mut code = String::new(alloc);
     remarks.add_code(&mut code, line)?;
     Ok(is_blank(code.as_str()))

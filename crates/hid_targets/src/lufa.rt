@@ -20,8 +20,8 @@ pub fn add_lufa_item(text: &mut String, bytes: &[u8]) -> Result<(), AllocError> 
         _ => 32,
     };
     match lufa_name(*header) {
-        Some(name) if data.len() == bits / 8 => add_call(text, name, *header, bits, data),
-        _ => add_numbers(text, bytes),
+        Some(name) => add_call(text, name, *header, bits, data),
+        None => add_numbers(text, bytes),
     }
 }
 

@@ -40,9 +40,8 @@ fn put_no_keys(field: &ArrayField, bytes: &mut [u8]) {
         return;
     };
     for index in 0..usize::from(field.report_count) {
-        if field.insert_one(bytes, index, nothing).is_err() {
-            return;
-        }
+        // Elements that can't be written stay 0.
+        let _ = field.insert_one(bytes, index, nothing);
     }
 }
 

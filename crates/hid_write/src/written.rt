@@ -113,13 +113,10 @@ impl<'a> Written<'a> {
     /// Refuses a word by which a key isn't pressed that another one presses.
     pub fn check(&mut self, word: &str) -> Result<()> {
         self.is_checking = true;
-        match assignment_of(word) {
-            Some(assignment) if assignment.number == 0 => {
-                self.put(assignment)?;
-                Ok(())
-            }
-            _ => Ok(()),
+        if let Some(assignment) = assignment_of(word) {
+            self.put(assignment)?;
         }
+        Ok(())
     }
 
     /// Puts a number into the field that is named, and answers that.
