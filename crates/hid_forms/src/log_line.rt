@@ -1,6 +1,6 @@
 //! A line of the kernel's log with a line of a dump in it, as `dmesg` and `journalctl` show what
-//! `print_hex_dump` writes: times and names, then an offset of eight digits. Times stand in the ways
-//! of `dmesg` and of each `journalctl -o` that writes a line.
+//! `print_hex_dump` writes: times and names, then an offset of eight digits. Times stand as `dmesg`
+//! writes them, and each `journalctl -o` that writes lines.
 use crate::hex_text::is_digits;
 
 /// How many digits an offset has.

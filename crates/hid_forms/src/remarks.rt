@@ -90,7 +90,7 @@ impl Remarks {
     }
 }
 
-/// Whether C goes on with a line in the next: it ends in `\`, as compilers see it also before spaces.
+/// Whether C goes on with a line in the next: it ends in `\`, for compilers also before spaces.
 fn ends_spliced(line: &str) -> bool {
     line.trim_end().ends_with("\\")
 }

@@ -113,7 +113,7 @@ impl Settings<'_> {
         own
     }
 
-    /// Whether these bytes are what is left where Linux takes a descriptor and leaves out all of it.
+    /// Whether these bytes are what is left of a descriptor that Linux takes: nothing.
     pub fn has_left_none(&self, bytes: &[u8]) -> bool {
         self.read_as == Some(ReadAs::Linux) && bytes.is_empty()
     }

@@ -1,8 +1,8 @@
 //! How the lines of a report's fields are written.
 use hid_words::{DEEPEST, indent_within};
 
-/// How many columns a line has at least behind its spaces: for the bits of a field, and for the first
-/// word of its name.
+/// How many columns a line has at least behind its spaces: for a field's bits and the first word of
+/// its name.
 const LEAST: usize = 26;
 
 /// Whether lines have colours, and how far they are indented.
