@@ -53,7 +53,7 @@ def stored():
 def split(runs):
     """The words of each run, as a shell parts them."""
     script = "".join(f"words=({it.words}); printf '%s\\0' \"${{#words[@]}}\" \"${{words[@]}}\"\n" for it in runs)
-    said = subprocess.run(["bash", "-s"], input=script.encode(), capture_output=True, check=True).stdout
+    said = subprocess.run(["bash"], input=script.encode(), capture_output=True, check=True).stdout
     parts = said.split(b"\0")
     for run in runs:
         count = int(parts[0])

@@ -165,8 +165,30 @@ impl<'a> Command<'a> {
         }
     }
 
+    /// Whether it takes a descriptor's bytes as they stand, or as Linux mends them.
+    fn takes_bytes(&self) -> bool {
+        match self {
+            Command::Diff(command) => command.by_items,
+            Command::Decode(_)
+            | Command::Check(_)
+            | Command::Convert(_)
+            | Command::Compile(_)
+            | Command::Uhid(_) => true,
+            _ => false,
+        }
+    }
+
     /// Does what is asked for.
     pub fn run<R: World>(&self, rt: &R, settings: &Settings) -> Result<Ending> {
+        if self.takes_bytes() {
+            self.run_by(rt, settings)
+        } else {
+            self.run_by(rt, &settings.unmended())
+        }
+    }
+
+    /// The same by the options that mean something for it.
+    fn run_by<R: World>(&self, rt: &R, settings: &Settings) -> Result<Ending> {
         match self {
             Command::Decode(command) => command.run(rt, settings),
             Command::Fields(command) => command.run(rt, settings),

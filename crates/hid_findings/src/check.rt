@@ -4,12 +4,12 @@ use crate::findings::{Checked, findings};
 use crate::host_findings::{Host, Verdict};
 use crate::severity::Severity;
 use anyhow::{Result, bail};
-use hid_input::parsing::descriptor_within;
+use hid_input::parsing::{descriptor_within, parsed_bytes};
 use hid_input::settings::Settings;
 use hid_input::world::World;
 use hid_output::ending::Ending;
 use hid_output::{add_json, flush, flush_piece};
-use hidreport::{ParserError, ReportDescriptor};
+use hidreport::ParserError;
 use serde::Serialize;
 use std::alloc::Global;
 use std::fmt::Write;
@@ -75,7 +75,7 @@ fn checked(
     bytes: &[u8],
     host: Option<Host>,
 ) -> Result<Checked> {
-    let parsed = ReportDescriptor::try_from_with(alloc, bytes, settings.parse);
+    let parsed = parsed_bytes(alloc, settings, bytes);
     if let Err(ParserError::OutOfMemory) = parsed {
         bail!("out of memory");
     }

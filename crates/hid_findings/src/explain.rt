@@ -3,7 +3,7 @@ use crate::rule::{RULES, Rule};
 use crate::rule_row::RuleRow;
 use anyhow::{Result, bail};
 use hid_input::settings::Settings;
-use hid_nearest::Nearest;
+use hid_nearest::{Nearest, ROOM};
 use hid_output::ending::Ending;
 use hid_output::{add_json, flush};
 use serde::Serialize;
@@ -48,8 +48,8 @@ impl Explain {
                 return Ok(Explain { rule });
             }
         }
-        let known = nearest_to(alloc, word)?;
-        bail!("--explain {word}: no rule has this number or name{known}")
+        let refusal = no_rule(alloc, word)?;
+        bail!("{refusal}")
     }
 
     /// Shows a rule, or a line of each.
@@ -77,8 +77,9 @@ impl Explain {
     }
 }
 
-/// The names that are nearest to a word: of those that have it as a part, where some have.
-fn nearest_to(alloc: Global, word: &str) -> Result<String, AllocError> {
+/// What is said of a word that no rule has: the names that are nearest, of those that have it as a
+/// part, where some have.
+fn no_rule(alloc: Global, word: &str) -> Result<String, AllocError> {
     let mut nearest = Nearest::new(alloc, word)?;
     let have_it = RULES.iter().any(|rule| rule.row().name.contains(word));
     for rule in &RULES {
@@ -87,9 +88,9 @@ fn nearest_to(alloc: Global, word: &str) -> Result<String, AllocError> {
             nearest.add(String::from_str(alloc, row.name)?)?;
         }
     }
-    let mut known = String::new(alloc);
-    nearest.add_to(&mut known)?;
-    Ok(known)
+    let mut refusal = format!(in alloc; "--explain {word}: no rule has this number or name")?;
+    nearest.add_to(&mut refusal, ROOM)?;
+    Ok(refusal)
 }
 
 /// Appends a rule as JSON.

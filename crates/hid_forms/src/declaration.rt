@@ -1,6 +1,7 @@
 //! What a declaration of an array says before its list, in C, Rust, Go, Java, C# and JavaScript.
 use crate::hex_text::without_prefix;
 use crate::names::name_and_rest;
+use crate::unknown::shortened;
 use anyhow::{Result, bail};
 use hid_macros::ReportMacro;
 
@@ -65,13 +66,42 @@ pub fn is_braced(list: &str) -> bool {
     }
 }
 
-/// Refuses an array whose elements are no bytes, by the words of its declaration.
+/// Refuses an array whose elements are no bytes, by the words of its declaration, and a struct.
 pub fn check_type(declared: &str) -> Result<()> {
-    let is_other = |letter: char| !letter.is_ascii_alphanumeric() && letter != '_';
-    if let Some(word) = declared.split(is_other).find(|word| WIDER.contains(word)) {
-        bail!("an array of {word} has no bytes");
+    let name = name_in(declared);
+    for word in declared.split(is_no_letter) {
+        if WIDER.contains(&word) {
+            bail!("an array of {word} has no bytes");
+        }
+        if matches!(word, "struct" | "union") && word != name && !has_one_array(declared) {
+            bail!(
+                "what stands in a {word} isn't its bytes: {}",
+                shortened(declared)
+            );
+        }
     }
     Ok(())
+}
+
+/// Whether a letter is in no word.
+fn is_no_letter(letter: char) -> bool {
+    !letter.is_ascii_alphanumeric() && letter != '_'
+}
+
+/// Whether a declaration says that its struct has one array and no more, as that of Microchip's
+/// stacks around a descriptor: `struct{BYTE report[50];}hid_rpt01`.
+fn has_one_array(declared: &str) -> bool {
+    let Some((_before, members)) = declared.split_once("{") else {
+        return false;
+    };
+    let Some((member, name)) = members.split_once("}") else {
+        return false;
+    };
+    let Some(member) = member.trim().strip_suffix(";") else {
+        return false;
+    };
+    let is_other = |letter: char| matches!(letter, ';' | ',' | '{');
+    member.trim().ends_with("]") && !member.contains(is_other) && !name.contains("[")
 }
 
 /// The name that a declaration gives: before `:`, or else before brackets, in Java and C# behind

@@ -46,6 +46,7 @@ impl HexLines {
 
     /// Takes the bytes of a line.
     pub fn take(&mut self, found: &mut Found, line: &str) -> Result<()> {
+        self.remarks.check_next(line)?;
         if !self.remarks.may_be_in(line) {
             return self.take_code(found, line);
         }

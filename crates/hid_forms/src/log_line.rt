@@ -1,5 +1,6 @@
 //! A line of the kernel's log with a line of a dump in it, as `dmesg` and `journalctl` show what
-//! `print_hex_dump` writes: times and names, then an offset of eight digits.
+//! `print_hex_dump` writes: times and names, then an offset of eight digits. Times stand as `dmesg`
+//! writes them, and each `journalctl -o` that writes lines.
 use crate::hex_text::is_digits;
 
 /// How many digits an offset has.
@@ -7,6 +8,9 @@ const DIGITS: usize = 8;
 
 /// How many letters a time such as `Nov 27 12:00:00` has.
 const STAMP: usize = 15;
+
+/// How a time such as `Fri 2026-11-27 12:00:00 UTC` begins.
+const FULL_TIME: &str = "aaa 0000-00-00 00:00:00 ";
 
 /// The parts of a line.
 #[derive(Clone, Copy)]
@@ -68,22 +72,58 @@ fn after_time(text: &str) -> &str {
             _ => text,
         };
     }
-    if let (Some(stamp), Some(rest)) = (text.get(..STAMP), text.get(STAMP..))
-        && is_stamp(stamp)
-        && rest.starts_with(" ")
-    {
-        return rest.trim_start();
+    if let Some(rest) = after_stamp(text) {
+        return rest;
+    }
+    if let Some(rest) = after_full_time(text) {
+        return rest;
     }
     match text.split_once(" ") {
-        Some((time, rest)) if is_iso_time(time) => rest,
+        Some((time, rest)) if is_iso_time(time) || is_unix_time(time) => rest,
         _ => text,
+    }
+}
+
+/// What stands behind a time as `Nov 27 12:00:00`, or with its fraction `Nov 27 12:00:00.123456`.
+fn after_stamp(text: &str) -> Option<&str> {
+    if !is_stamp(text) {
+        return None;
+    }
+    let (fraction, rest) = text.get(STAMP..)?.split_once(" ")?;
+    match fraction.strip_prefix(".") {
+        Some(places) if is_number(places) => Some(rest.trim_start()),
+        None if fraction.is_empty() => Some(rest.trim_start()),
+        _ => None,
+    }
+}
+
+/// What stands behind a time as `Fri 2026-11-27 12:00:00 UTC`.
+fn after_full_time(text: &str) -> Option<&str> {
+    if !has_shape(text, FULL_TIME) {
+        return None;
+    }
+    let (zone, rest) = text.get(FULL_TIME.len()..)?.split_once(" ")?;
+    if is_zone(zone) { Some(rest) } else { None }
+}
+
+/// Whether a text is as `UTC`, or as `-03`.
+fn is_zone(text: &str) -> bool {
+    !text.is_empty()
+        && text.bytes().all(|byte| byte.is_ascii_alphanumeric() || matches!(byte, b'+' | b'-'))
+}
+
+/// Whether a time is seconds and millionths as `1770117753.123456`.
+fn is_unix_time(time: &str) -> bool {
+    match time.split_once(".") {
+        Some((_seconds, places)) => is_seconds(time) && places.len() == 6,
+        None => false,
     }
 }
 
 /// Whether a time is seconds as `12.345678`, or as `Fri Nov 27 12:00:00 2026`.
 fn is_time(time: &str) -> bool {
-    if let Some((seconds, places)) = time.trim().split_once(".") {
-        return is_number(seconds) && is_number(places);
+    if is_seconds(without_delta(time).trim()) {
+        return true;
     }
     match (time.get(..4), time.get(4..19), time.get(19..)) {
         (Some(day), Some(stamp), Some(year)) => {
@@ -93,7 +133,27 @@ fn is_time(time: &str) -> bool {
     }
 }
 
-/// Whether a text is as `Nov 27 12:00:00`: where another has a digit, it has one.
+/// A time without the seconds since the line before it, as in `12.345678 <    0.000012 >`.
+fn without_delta(time: &str) -> &str {
+    let Some((before, delta)) = time.split_once(" <") else {
+        return time;
+    };
+    let Some(delta) = delta.strip_suffix(">") else {
+        return time;
+    };
+    let seconds = delta.strip_suffix("*").unwrap_or(delta).trim();
+    if is_seconds(seconds) { before } else { time }
+}
+
+/// Whether a text is as `12.345678`.
+fn is_seconds(text: &str) -> bool {
+    match text.split_once(".") {
+        Some((seconds, places)) => is_number(seconds) && is_number(places),
+        None => false,
+    }
+}
+
+/// Whether a text begins as `Nov 27 12:00:00`: where another has a digit, it has one.
 fn is_stamp(text: &str) -> bool {
     has_shape(text, "aaa 00 00:00:00")
 }

@@ -44,8 +44,10 @@ pub struct LsusbLines {
     /// The ids of the device, and its interface.
     ids: String,
     interface: String,
-    /// Whether a descriptor's items come, and how many bytes it says that they have.
+    /// Whether a descriptor's items come, how many spaces stand before its first line, and how many
+    /// bytes it says that they have.
     is_inside: bool,
+    indent: usize,
     said: Option<usize>,
     bytes: Vec<u8>,
 }
@@ -55,6 +57,11 @@ pub fn is_lsusb_line(line: &str) -> bool {
     let line = line.trim();
     let is_head = line.starts_with("Bus ") && line.contains(" Device ") && line.contains(": ID ");
     is_head || line == "Device Descriptor:" || said_in(line).is_some() || is_item(line)
+}
+
+/// How many spaces a line begins with.
+fn indent_of(line: &str) -> usize {
+    line.len().saturating_sub(line.trim_start().len())
 }
 
 /// Whether a line is an item.
@@ -84,6 +91,7 @@ impl LsusbLines {
             ids: String::new(alloc),
             interface: String::new(alloc),
             is_inside: false,
+            indent: 0,
             said: None,
             bytes: Vec::new(alloc),
         }
@@ -91,31 +99,36 @@ impl LsusbLines {
 
     /// Takes what a line says.
     pub fn take(&mut self, found: &mut Found, line: &str) -> Result<()> {
+        let indent = indent_of(line);
         if let Some(said) = said_in(line) {
             self.end(found)?;
-            return self.begin(said);
+            return self.begin(said, indent);
         }
         if is_item(line) {
             ensure!(
                 self.is_inside || found.devices.is_empty(),
                 "an item stands below no Report Descriptor"
             );
-            self.is_inside = true;
+            if !self.is_inside {
+                self.is_inside = true;
+                self.indent = indent;
+            }
             return self.take_item(line.trim());
         }
-        if line.trim().is_empty() || self.is_inside && line.starts_with("                ") {
+        if line.trim().is_empty() || self.is_inside && self.indent < indent {
             return Ok(());
         }
         self.end(found)?;
         self.take_other(line.trim())
     }
 
-    /// Takes the first line of a descriptor.
-    fn begin(&mut self, said: &str) -> Result<()> {
+    /// Takes the first line of a descriptor, behind so many spaces.
+    fn begin(&mut self, said: &str, indent: usize) -> Result<()> {
         match said.parse::<usize>() {
             Ok(said) => {
                 self.said = Some(said);
                 self.is_inside = true;
+                self.indent = indent;
                 Ok(())
             }
             Err(_wrong) => bail!("{said} is no number of bytes"),

@@ -1,10 +1,15 @@
 //! Remarks of C in lines: behind `//`, or between `/*` and `*/` over several lines.
+use crate::unknown::shortened;
+use anyhow::{Result, ensure};
 use std::alloc::AllocError;
+use std::mem;
 
 /// Whether a remark goes on behind the lines so far.
 #[derive(Clone, Copy)]
 pub struct Remarks {
     is_inside: bool,
+    /// Whether the line before ends in a remark behind `//` and `\`: in C this goes on.
+    may_go_on: bool,
     /// Whether one begins at `#`, too.
     has_hash: bool,
 }
@@ -14,6 +19,7 @@ impl Remarks {
     pub fn of_source() -> Remarks {
         Remarks {
             is_inside: false,
+            may_go_on: false,
             has_hash: false,
         }
     }
@@ -22,6 +28,7 @@ impl Remarks {
     pub fn of_hex_text() -> Remarks {
         Remarks {
             is_inside: false,
+            may_go_on: false,
             has_hash: true,
         }
     }
@@ -33,7 +40,23 @@ impl Remarks {
 
     /// Whether the next line has a part of a remark that may go on over lines.
     pub fn may_be_in(self, line: &str) -> bool {
-        self.is_inside || line.contains("/*")
+        self.is_inside || line.contains("/*") || line.contains("//") && ends_spliced(line)
+    }
+
+    /// Refuses the next line where C has it in a remark behind `//`, and other languages don't.
+    ///
+    /// # Errors
+    ///
+    /// - it says something, and the remark before it ends in `\`.
+    pub fn check_next(&mut self, line: &str) -> Result<()> {
+        let may_go_on = mem::replace(&mut self.may_go_on, false);
+        let text = line.trim();
+        ensure!(
+            !may_go_on || text.is_empty() || text.starts_with("//"),
+            "may be of the remark before it, as in C: {}",
+            shortened(text)
+        );
+        Ok(())
     }
 
     /// Appends what of the next line is in no remark, with a space for each that ends in it.
@@ -49,6 +72,7 @@ impl Remarks {
                 }
             } else if last == '/' && letter == '/' {
                 code.pop();
+                self.may_go_on = ends_spliced(line);
                 return Ok(());
             } else if last == '/' && letter == '*' {
                 code.pop();
@@ -64,4 +88,9 @@ impl Remarks {
         }
         Ok(())
     }
+}
+
+/// Whether C goes on with a line in the next: it ends in `\`, for compilers also before spaces.
+fn ends_spliced(line: &str) -> bool {
+    line.trim_end().ends_with("\\")
 }

@@ -107,6 +107,7 @@ impl SourceLines {
 
     /// Takes what a line says.
     pub fn take(&mut self, found: &mut Found, line: &str) -> Result<()> {
+        self.remarks.check_next(line)?;
         let mut code = String::new(*found.devices.allocator());
         self.remarks.add_code(&mut code, line)?;
         let code = code.as_str().trim();

@@ -70,6 +70,18 @@ pub fn parsed(alloc: Global, settings: &Settings, bytes: &[u8]) -> Result<Report
     }
 }
 
+/// A descriptor's bytes as they stand, parsed; where Linux leaves out all of it there is no report.
+pub fn parsed_bytes(
+    alloc: Global,
+    settings: &Settings,
+    bytes: &[u8],
+) -> Result<ReportDescriptor, ParserError> {
+    if settings.has_left_none(bytes) {
+        return Ok(ReportDescriptor::empty(alloc));
+    }
+    ReportDescriptor::try_from_with(alloc, bytes, settings.parse)
+}
+
 /// The descriptors of all devices, read, which share what may be listed.
 pub fn all_read<R: AllocGlobal + Eprint>(
     rt: &R,

@@ -104,6 +104,20 @@ impl Settings<'_> {
         self.read_as != Some(ReadAs::Standard)
     }
 
+    /// The same, where a descriptor is read anyway: it isn't mended before.
+    pub fn unmended(&self) -> Settings<'_> {
+        let mut own = *self;
+        if own.read_as == Some(ReadAs::Linux) {
+            own.read_as = None;
+        }
+        own
+    }
+
+    /// Whether these bytes are what is left of a descriptor that Linux takes: nothing.
+    pub fn has_left_none(&self, bytes: &[u8]) -> bool {
+        self.read_as == Some(ReadAs::Linux) && bytes.is_empty()
+    }
+
     /// Whether something is said on standard error beside refusals.
     pub fn has_notes(&self) -> bool {
         self.notes != Notes::Quiet

@@ -1,6 +1,7 @@
 //! A block of lines that stands several times in a report, and is shown once.
 use crate::field_line::FieldLine;
-use hid_words::{add_bits, add_spaces, indent_of};
+use crate::line_style::LineStyle;
+use hid_words::{add_bits, add_spaces};
 use std::alloc::AllocError;
 use std::fmt::Write;
 use std::ops::Range;
@@ -52,27 +53,32 @@ impl Block {
         self,
         text: &mut String,
         lines: &[FieldLine],
-        is_coloured: bool,
+        style: LineStyle,
     ) -> Result<(), AllocError> {
         for line in lines.iter().take(self.length) {
-            line.add(text, is_coloured)?;
+            line.add(text, style)?;
         }
         if self.again == 0 {
             return Ok(());
         }
-        self.add_again(text, lines.get(..self.length).unwrap_or(lines))
+        self.add_again(text, lines.get(..self.length).unwrap_or(lines), style)
     }
 
     /// Appends the line for those left out: their bits, which fields they are, and how far each of
     /// them lies behind the one before.
-    fn add_again(self, text: &mut String, block: &[FieldLine]) -> Result<(), AllocError> {
+    fn add_again(
+        self,
+        text: &mut String,
+        block: &[FieldLine],
+        style: LineStyle,
+    ) -> Result<(), AllocError> {
         let Some(bits) = bits_of(block) else {
             return Ok(());
         };
         let far = bits.len();
         let end = bits.end.saturating_add(far.saturating_mul(self.again));
         let depth = block.first().map_or(0, |line| line.depth());
-        add_spaces(text, indent_of(depth.saturating_add(1)))?;
+        add_spaces(text, style.indent_in(depth))?;
         add_bits(text, bits.end, end)?;
         add_which(text, block)?;
         match self.again {

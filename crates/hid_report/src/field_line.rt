@@ -1,6 +1,7 @@
 //! The lines that show the fields of a report: the collections that open, and the fields in them.
 use crate::alike_fields::AlikeFields;
-use hid_words::{Colour, add_collection, add_depth, add_spaces, indent_of};
+use crate::line_style::LineStyle;
+use hid_words::{Colour, add_collection, add_depth_within, add_spaces};
 use hidreport::{Collection, Field, RDescReport, Report};
 use std::alloc::{AllocError, Global};
 use std::ops::Range;
@@ -45,17 +46,18 @@ impl<'a> FieldLine<'a> {
     }
 
     /// Appends the line, with its end; in colour a collection, and padding.
-    pub fn add(self, text: &mut String, is_coloured: bool) -> Result<(), AllocError> {
+    pub fn add(self, text: &mut String, style: LineStyle) -> Result<(), AllocError> {
+        let is_coloured = style.is_coloured;
         match self {
             FieldLine::Opens(depth, collection) => {
-                add_depth(text, depth.saturating_add(1))?;
+                add_depth_within(text, depth.saturating_add(1), style.deepest)?;
                 Colour::Cyan.begin(text, is_coloured)?;
                 add_collection(text, collection)?;
                 Colour::end(text, is_coloured)?;
             }
             FieldLine::Fields(depth, fields) => {
                 let is_faint = is_coloured && matches!(fields.first, Field::Constant(_));
-                let indent = indent_of(depth.saturating_add(1));
+                let indent = style.indent_in(depth);
                 add_spaces(text, indent)?;
                 Colour::Faint.begin(text, is_faint)?;
                 fields.add(text, indent)?;

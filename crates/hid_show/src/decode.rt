@@ -1,12 +1,12 @@
 //! `hid decode`: the items of a descriptor in words.
 use anyhow::{Result, bail};
-use hid_input::parsing::{descriptor_within, with_advice};
+use hid_input::parsing::{descriptor_within, parsed_bytes, with_advice};
 use hid_input::settings::Settings;
 use hid_input::world::World;
 use hid_items::item_lines::{ItemLines, ItemStyle};
 use hid_output::ending::Ending;
 use hid_output::{flush, flush_piece};
-use hidreport::{ParserError, ReportDescriptor};
+use hidreport::ParserError;
 
 /// Shows the items of a descriptor.
 #[derive(Clone, Copy)]
@@ -24,7 +24,7 @@ impl<'a> Decode<'a> {
 }
 
 fn show<R: World>(rt: &R, settings: &Settings, bytes: &[u8]) -> Result<Ending> {
-    match ReportDescriptor::try_from_with(rt.alloc(), bytes, settings.parse) {
+    match parsed_bytes(rt.alloc(), settings, bytes) {
         Err(ParserError::OutOfMemory) => bail!("out of memory"),
         Err(fault) => {
             show_items(rt, settings, bytes, Some(&fault))?;

@@ -1,5 +1,5 @@
 //! `hid fields --json`: each field as JSON, with the offset of its item.
-use crate::item_offsets::{ItemOffsets, unmended};
+use crate::item_offsets::ItemOffsets;
 use anyhow::Result;
 use hid_input::input::descriptor_named;
 use hid_input::linux_read::mended;
@@ -11,7 +11,7 @@ use hidreport::{Change, Direction, Field, OutlineReport, RDescReport, Report, Re
 
 /// Shows the fields of a descriptor as JSON, and answers whether it has a report.
 pub(crate) fn show_objects<R: World>(rt: &R, settings: &Settings, file: &str) -> Result<bool> {
-    let given = descriptor_named(rt, &unmended(settings), file)?;
+    let given = descriptor_named(rt, settings, file)?;
     show_given(rt, settings, file, given.descriptor())
 }
 

@@ -8,7 +8,7 @@ use hid_input::settings::Settings;
 use hid_input::world::World;
 use hid_output::ending::Ending;
 use hid_output::{escaped, flush, flush_piece};
-use hid_report::{Block, SameReports, field_lines};
+use hid_report::{Block, LineStyle, SameReports, field_lines};
 use hidreport::{Direction, RDescReport, Report, ReportDescriptor};
 
 /// Shows the reports of a descriptor with their fields.
@@ -92,6 +92,7 @@ impl<'a> Fields<'a> {
         report: &RDescReport,
     ) -> Result<()> {
         let lines = field_lines(rt.alloc(), report, self.shows_each)?;
+        let style = LineStyle::of(settings.is_coloured, settings.width);
         let mut next = 0usize;
         for place in 0..lines.len() {
             if place < next {
@@ -104,7 +105,7 @@ impl<'a> Fields<'a> {
                 Block::at(rest)
             };
             let mut shown = String::new(rt.alloc());
-            block.add(&mut shown, rest, settings.is_coloured)?;
+            block.add(&mut shown, rest, style)?;
             add_fitted(text, shown.as_str(), settings.width)?;
             flush_piece(rt, text)?;
             next = place.saturating_add(block.len());

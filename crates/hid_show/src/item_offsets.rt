@@ -42,13 +42,6 @@ impl<'a> ItemOffsets<'a> {
     }
 }
 
-/// The same options, by which a descriptor isn't mended when its input is read.
-pub(crate) fn unmended<'a>(settings: &Settings<'a>) -> Settings<'a> {
-    let mut own = *settings;
-    own.read_as = None;
-    own
-}
-
 /// Where what stands at an offset now stood before these changes.
 fn given_offset(changes: &[Change], now: usize) -> usize {
     let mut given = now;

@@ -1,5 +1,4 @@
 //! `hid fields --linux`: each field with the event codes that Linux gives its usages.
-use crate::item_offsets::unmended;
 use crate::linux_shown::Shown;
 use crate::linux_usages::check_usages;
 use anyhow::Result;
@@ -12,7 +11,7 @@ use hidreport_linux::{Doubt, Driver, LinuxDevice};
 
 /// Shows the reports of a descriptor with their fields, and what Linux gives each.
 pub fn show_linux<R: World>(rt: &R, settings: &Settings, file: &str) -> Result<Ending> {
-    let given = descriptor_named(rt, &unmended(settings), file)?;
+    let given = descriptor_named(rt, settings, file)?;
     let read = read_by_linux(rt.alloc(), settings, given.descriptor())?;
     show_device(rt, settings, file, &read)?;
     Ok(Ending::Done)

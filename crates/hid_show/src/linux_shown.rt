@@ -7,8 +7,8 @@ use hid_input::settings::Settings;
 use hid_objects::field_object::{RestObject, object_of};
 use hid_objects::linux::{Answered, add_answers, add_lines, answers_of, objects_of, stretch};
 use hid_output::{add_json, flush, flush_piece};
-use hid_report::{FieldLine, add_head, around};
-use hid_words::{add_field, add_spaces, indent_of};
+use hid_report::{FieldLine, LineStyle, add_head, around};
+use hid_words::{add_field, add_spaces};
 use hidreport::{
     Collection, Direction, Field, Group, OutlineReport, RDescReport, Report, ReportDescriptor,
     Usage,
@@ -17,8 +17,8 @@ use hidreport_linux::{LinuxDevice, LinuxField, LinuxReport};
 use hidreport_multitouch::{DrivenDevices, DrivenItem};
 use std::alloc::{AllocError, Global};
 
-/// How much deeper than its array's the usages of an array stand.
-const DEEPER: usize = 12;
+/// How much deeper than its array the usages of an array stand: below its name, behind its bits.
+const DEEPER: usize = 11;
 
 /// What is shown so far; `all` are the input devices behind all usages.
 #[derive(Drop)]
@@ -28,7 +28,7 @@ pub(crate) struct Shown<'c> {
     all: DrivenDevices,
     offsets: ItemOffsets<'c>,
     is_json: bool,
-    is_coloured: bool,
+    style: LineStyle,
     width: Option<usize>,
 }
 
@@ -45,7 +45,7 @@ impl<'c> Shown<'c> {
             all: DrivenDevices::behind(alloc, read.reading())?,
             offsets: ItemOffsets::of(alloc, settings, read.bytes(), read.changes())?,
             is_json: settings.is_json,
-            is_coloured: settings.is_coloured,
+            style: LineStyle::of(settings.is_coloured, settings.width),
             width: settings.width,
         })
     }
@@ -233,8 +233,9 @@ impl<'c> Shown<'c> {
             } else {
                 let around = around(open, field);
                 let mut lines = String::new(alloc);
-                add_opened(&mut lines, open, around, self.is_coloured)?;
-                add_answered(&mut lines, field, &answers, around.len())?;
+                add_opened(&mut lines, open, around, self.style)?;
+                let indent = self.style.indent_in(around.len());
+                add_answered(&mut lines, field, &answers, indent)?;
                 add_fitted(&mut self.text, lines.as_str(), self.width)?;
                 open = around;
             }
@@ -261,7 +262,7 @@ impl<'c> Shown<'c> {
             let object = RestObject::of(direction, report, offset, group, objects)?;
             return add_json(&mut self.text, &object);
         }
-        let indent = indent_of(depth.saturating_add(1));
+        let indent = self.style.indent_in(depth);
         let mut lines = String::new(*self.text.allocator());
         add_spaces(&mut lines, indent)?;
         lines.push_str("usages without a field:")?;
@@ -289,14 +290,13 @@ fn id_of(report: &OutlineReport) -> u32 {
     report.report_id().map_or(0, |id| u32::from(u8::from(id)))
 }
 
-/// Appends a field inside so many collections, and what Linux gives it.
+/// Appends a field so far in, and what Linux gives it.
 fn add_answered(
     text: &mut String,
     field: &Field,
     answers: &[Answered],
-    depth: usize,
+    indent: usize,
 ) -> Result<(), AllocError> {
-    let indent = indent_of(depth.saturating_add(1));
     add_spaces(text, indent)?;
     add_field(text, field, indent)?;
     add_answers(text, field, answers, indent.saturating_add(DEEPER))?;
@@ -308,11 +308,11 @@ fn add_opened(
     text: &mut String,
     before: &[Collection],
     around: &[Collection],
-    is_coloured: bool,
+    style: LineStyle,
 ) -> Result<(), AllocError> {
     let shared = Collection::shared(before, around);
     for (depth, collection) in around.iter().enumerate().skip(shared) {
-        FieldLine::Opens(depth, collection).add(text, is_coloured)?;
+        FieldLine::Opens(depth, collection).add(text, style)?;
     }
     Ok(())
 }

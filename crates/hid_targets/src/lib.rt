@@ -15,7 +15,7 @@ use crate::source::Source;
 use crate::webhid::collections_of;
 use anyhow::Result;
 use hid_input::parsing::parsed;
-use hid_input::settings::{ReadAs, Settings};
+use hid_input::settings::Settings;
 use hid_output::{add_bytes, flush, flush_piece, show_bytes};
 pub use report_target::{ReportTarget, report_targets};
 use std::alloc::{AllocError, Global};
@@ -112,7 +112,7 @@ impl Target {
 
 /// The collections of a descriptor that is read; where mending left nothing of it, it has none.
 fn read_collections(alloc: Global, settings: &Settings, bytes: &[u8]) -> Result<String> {
-    if settings.read_as != Some(ReadAs::Linux) || !bytes.is_empty() {
+    if !settings.has_left_none(bytes) {
         parsed(alloc, settings, bytes)?;
     }
     collections_of(alloc, bytes)

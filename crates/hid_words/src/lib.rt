@@ -19,7 +19,7 @@ mod usage_list;
 
 pub use colour::Colour;
 pub use counted::plural;
-pub use depth::{add_depth, add_spaces, indent_of};
+pub use depth::{DEEPEST, add_depth, add_depth_within, add_spaces, indent_of, indent_within};
 pub use direction::{direction_named, title_of, word_of};
 pub use faults::{fault_offset, fault_words};
 pub use field_flags::{FLAG_WORDS, FLAGS, flags_of};

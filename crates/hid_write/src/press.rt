@@ -1,6 +1,6 @@
 //! Keys of a keyboard by the words that people have for them, as `Ctrl+A`.
 use anyhow::{Result, bail};
-use hid_nearest::Nearest;
+use hid_nearest::{Nearest, ROOM};
 use std::alloc::{AllocError, Global};
 
 /// Keys by their words and their usages on the page Keyboard/Keypad (HID Usage Tables, Section 10).
@@ -91,8 +91,8 @@ pub fn pressed_keys<'a>(alloc: Global, keys: Option<&'a str>) -> Result<Vec<Pres
     };
     for key in keys.split("+") {
         let Some(id) = key_named(key.trim()) else {
-            let known = nearest_to(alloc, key)?;
-            bail!("--press {key}: no such key{known}");
+            let refusal = no_key(alloc, key)?;
+            bail!("{refusal}");
         };
         let word = format!(in alloc; "0007{id:04x}=1")?;
         if !pressed
@@ -120,13 +120,13 @@ fn key_named(word: &str) -> Option<u16> {
     Some(row.1)
 }
 
-/// The words that are nearest to one.
-fn nearest_to(alloc: Global, word: &str) -> Result<String, AllocError> {
+/// What is said of a word that is no key: those that are nearest.
+fn no_key(alloc: Global, word: &str) -> Result<String, AllocError> {
     let mut nearest = Nearest::new(alloc, word)?;
     for row in KEYS.iter() {
         nearest.add(String::from_str(alloc, row.0)?)?;
     }
-    let mut known = String::new(alloc);
-    nearest.add_to(&mut known)?;
-    Ok(known)
+    let mut refusal = format!(in alloc; "--press {word}: no such key")?;
+    nearest.add_to(&mut refusal, ROOM)?;
+    Ok(refusal)
 }

@@ -51,7 +51,7 @@ impl<'a> Written<'a> {
         let Some(assignment) = assignment_of(word) else {
             bail!("isn't NAME=NUMBER, as 'Num Lock=1' is: --names shows the names");
         };
-        let field = self.put(assignment)?;
+        let field = self.put(word, assignment)?;
         if !settings.has_notes() {
             return Ok(());
         }
@@ -114,13 +114,13 @@ impl<'a> Written<'a> {
     pub fn check(&mut self, word: &str) -> Result<()> {
         self.is_checking = true;
         if let Some(assignment) = assignment_of(word) {
-            self.put(assignment)?;
+            self.put(word, assignment)?;
         }
         Ok(())
     }
 
-    /// Puts a number into the field that is named, and answers that.
-    fn put(&mut self, assignment: Assignment) -> Result<&'a Field> {
+    /// Puts the number of a word into the field that it names, and answers that.
+    fn put(&mut self, word: &str, assignment: Assignment) -> Result<&'a Field> {
         for wanted in [
             WantedUsage::new(assignment.name),
             WantedUsage::in_any_case(assignment.name),
@@ -142,8 +142,8 @@ impl<'a> Written<'a> {
             add_usage(&mut another, *other)?;
             bail!("may be {one} or {another}");
         }
-        let mut known = String::new(self.alloc);
-        add_nearest(&mut known, self.report, assignment.name)?;
-        bail!("no field has this name{known}")
+        let mut refusal = String::from_str(self.alloc, "no field has this name")?;
+        add_nearest(&mut refusal, self.report, assignment.name, word)?;
+        bail!("{refusal}")
     }
 }
