@@ -1,2 +1,4 @@
 pub mod DrivenLemmas
 pub mod FactLemmas
+pub mod PassingLemmas
+pub mod TouchedLemmas

@@ -1,5 +1,7 @@
 pub mod Driven
 pub mod Facts
+pub mod Fields
+pub mod Passing
 pub mod Reasons
 pub mod Settled
 pub mod TouchAxes

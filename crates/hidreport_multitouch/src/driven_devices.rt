@@ -1,8 +1,14 @@
 //! The input devices of a descriptor, by the driver that takes it.
 mod beside;
+mod entering;
 mod others;
+mod passing;
 mod touching;
 
+ghost use Rattle.std.specs.Prelude.{◌≡◌};
+ghost use Rattle.hidreport_multitouch.specs.Fields.{first_inputs, is_touched};
+
+use crate::driven_devices::passing::pass_fields;
 use crate::driven_event::DrivenEvent;
 use crate::driven_item::DrivenItem;
 use crate::silent::Silent;
@@ -12,9 +18,6 @@ use crate::touched::{TouchApplication, Touched};
 use hidreport::{Direction, Group, Usage};
 use hidreport_linux::{Driver, InputDevices, LinuxField, LinuxReading};
 use std::alloc::{AllocError, Global};
-
-/// The application by which hid-input knows the first device of a device that hid-multitouch takes.
-const FIRST_NAME: u32 = 0xffff_0000;
 
 /// The input devices that Linux makes of a descriptor by the driver that takes it, while its fields
 /// are gone over in order.
@@ -44,16 +47,22 @@ pub struct DrivenDevices {
 }
 
 impl DrivenDevices {
-    ghost use Rattle.std.specs.Prelude.{◌≡◌};
+    ghost use Rattle.std.specs.Prelude.{◌≡◌, IfOk, None, OnOk, nat_le, slice_get};
     ghost use Rattle.hidreport.specs.UsageNumber.{usage_number};
+    ghost use Rattle.hidreport_linux.specs.Asking.{item_of};
+    ghost use Rattle.hidreport_linux.specs.FieldDevices.{item_at};
     ghost use Rattle.hidreport_multitouch.specs.Driven.{class_of, driven_answer, inputs_at, is_by_id};
+    ghost use Rattle.hidreport_multitouch.specs.Passing.{GoesBy, item_behind, PassesAll, PassesField};
+    ghost use Rattle.hidreport_multitouch.specs.Fields.{BeginsField, Counts, IsBefore, items_in, touch_item_for};
 
     /// Before the first field of a descriptor.
     ///
     /// # Errors
     ///
     /// - `AllocError`: memory is refused.
-    pub fn new(alloc: Global, reading: &LinuxReading) -> Result<DrivenDevices, AllocError> {
+    pub fn new(alloc: Global, reading: &LinuxReading) -> Result<DrivenDevices, AllocError>
+        ensures { IfOk result (λ devices. IsBefore reading.now devices) }
+    {
         let mut inputs = Vec::new(alloc);
         inputs.push(first_inputs(alloc, reading))?;
         let facts = if is_touched(reading) {
@@ -79,12 +88,12 @@ impl DrivenDevices {
     /// # Errors
     ///
     /// - `AllocError`: memory is refused.
-    pub fn behind(alloc: Global, reading: &LinuxReading) -> Result<DrivenDevices, AllocError> {
+    pub fn behind(alloc: Global, reading: &LinuxReading) -> Result<DrivenDevices, AllocError>
+        ensures { IfOk result (λ devices. PassesAll reading.now devices) }
+    {
         let mut devices = DrivenDevices::new(alloc, reading)?;
         let fields = reading.fields(alloc)?;
-        for field in &fields {
-            devices.pass_field(reading, field)?;
-        }
+        pass_fields(reading, &fields, &mut devices)?;
         Ok(devices)
     }
 
@@ -98,17 +107,13 @@ impl DrivenDevices {
         &mut self,
         reading: &LinuxReading,
         field: &LinuxField,
-    ) -> Result<(), AllocError> {
+    ) -> Result<(), AllocError>
+        ensures { OnOk result (PassesField reading.now field.now self.old self.new) }
+    {
         let mut item = self.begin_field(field)?;
-        let mut last = 0;
-        for usage in reading.usages(field) {
-            last = u32::from(usage);
-            let _answer = self.event_of(&mut item, last);
-        }
+        let last = self.pass_usages(&mut item, reading.usages(field));
         if self.facts.is_some() {
-            for _element in field.usages..field.count {
-                let _answer = self.event_of(&mut item, last);
-            }
+            self.pass_again(item, last, field.count.saturating_sub(field.usages));
         }
         Ok(())
     }
@@ -118,30 +123,28 @@ impl DrivenDevices {
     /// # Errors
     ///
     /// - `AllocError`: memory for another input device is refused.
-    pub fn begin_field(&mut self, field: &LinuxField) -> Result<DrivenItem, AllocError> {
-        let is_of_input = !matches!(field.report.direction, Direction::Feature);
-        if field.is_first && is_of_input {
-            self.find_inputs(field.report.id)?;
-        }
-        let index = self.current_inputs();
-        let named = self.named(field);
-        let Some(inputs) = self.inputs.get_mut(index) else {
-            return Err(AllocError);
-        };
-        let item = inputs.begin_field(&named)?;
-        let current = inputs.current();
-        if field.is_first && is_of_input && !self.is_by_id() {
-            self.current = current;
-            if current == self.names.len() {
-                self.names.push(field.report.application)?;
-            }
-        }
+    pub fn begin_field(&mut self, field: &LinuxField) -> Result<DrivenItem, AllocError>
+        ensures item { IfOk result (λ item. item.item ≡ item_at field.now) }
+        ensures touch { IfOk result (λ item. item.touch
+            ≡ touch_item_for self.old.facts field.now self.old.applications.items) }
+        ensures devices { OnOk result (BeginsField field.now self.old self.new) }
+    {
+        self.find_report(field)?;
+        let item = self.enter_inputs(field)?;
+        self.name_inputs(field)?;
         let touch = self.touch_item(field)?;
         Ok(DrivenItem { item, touch })
     }
 
     /// Goes on to an item of a report that is known by its group alone, whose usages are hid-input's.
-    pub fn begin(&mut self, direction: Direction, group: &Group) -> DrivenItem {
+    pub fn begin(&mut self, direction: Direction, group: &Group) -> DrivenItem
+        ensures item { result.item ≡ item_of direction group.now
+            (nat_le 256 (items_in (slice_get self.old.inputs.items (inputs_at self.old)))) }
+        ensures touch { result.touch ≡ None }
+        ensures counted { Counts group.now (inputs_at self.old)
+            self.old.inputs.items self.new.inputs.items }
+        ensures rest { self.new ≡ record self.old { inputs = self.new.inputs } }
+    {
         let index = self.current_inputs();
         let item = match self.inputs.get_mut(index) {
             Some(inputs) => inputs.begin(direction, group),
@@ -157,7 +160,9 @@ impl DrivenDevices {
     /// - `Unmapped`: what hid-input says of it, or the descriptor.
     /// - `Application`, `Ignored`, `Read`: what hid-multitouch says.
     pub fn event(&mut self, item: &mut DrivenItem, usage: Usage) -> Result<DrivenEvent, Silent>
-        ensures { result ≡ driven_answer self.old item.old (usage_number usage) }
+        ensures answer { result ≡ driven_answer self.old item.old (usage_number usage) }
+        ensures item { item.new ≡ item_behind self.old item.old (usage_number usage) }
+        ensures behind { GoesBy item.old (usage_number usage) self.old self.new }
     {
         self.event_of(item, u32::from(usage))
     }
@@ -165,7 +170,9 @@ impl DrivenDevices {
     /// The same of a usage by its number.
     #[tactic(auto, unfolding(crate::specs::Driven::driven_answer))]
     fn event_of(&mut self, item: &mut DrivenItem, usage: u32) -> Result<DrivenEvent, Silent>
-        ensures { result ≡ driven_answer self.old item.old usage }
+        ensures answer { result ≡ driven_answer self.old item.old usage }
+        ensures item { item.new ≡ item_behind self.old item.old usage }
+        ensures behind { GoesBy item.old usage self.old self.new }
     {
         let Some(touch) = item.touch else {
             return self.hid_input_event(&mut item.item, usage);
@@ -206,55 +213,19 @@ impl DrivenDevices {
     {
         if self.is_by_id() { self.current } else { 0 }
     }
-
-    /// A field whose report has the application by which hid-input knows its device, where
-    /// hid-multitouch may name devices anew: a number for each.
-    fn named(&self, field: &LinuxField) -> LinuxField {
-        let mut named = *field;
-        if self.facts.is_some() {
-            let index = self.device_of(field.report.application);
-            named.report.application = FIRST_NAME.saturating_add((index % 0x1_0000) as u32);
-        }
-        named
-    }
-
-    /// The input device of an application where each has its own: the first of this name, or of a
-    /// Keyboard for System Control and Consumer Control; behind all where there is none yet.
-    fn device_of(&self, application: u32) -> usize {
-        let is_of_keys = application == 0x0001_0080 || application == 0x000c_0001;
-        let takes = |name: &u32| *name == application || is_of_keys && *name == 0x0001_0006;
-        self.names
-            .iter()
-            .position(takes)
-            .unwrap_or(self.names.len())
-    }
-
-    /// Goes on to the input device of a report id, where each has its own.
-    fn find_inputs(&mut self, id: u32) -> Result<(), AllocError> {
-        if !self.is_by_id() {
-            return Ok(());
-        }
-        if let Some(index) = self.ids.iter().position(|one| *one == id) {
-            self.current = index;
-            return Ok(());
-        }
-        self.current = self.ids.len();
-        self.ids.push(id)?;
-        if self.inputs.len() < self.ids.len() {
-            let inputs = InputDevices::new(self.alloc, 1, None);
-            self.inputs.push(inputs)?;
-        }
-        Ok(())
-    }
 }
 
 /// Whether hid-multitouch takes a device whose usages may have events.
-fn is_touched(reading: &LinuxReading) -> bool {
+fn is_touched(reading: &LinuxReading) -> bool
+    ensures { result ≡ is_touched reading.now }
+{
     matches!(reading.driver(), Some(Driver::Multitouch)) && reading.unmapped().is_none()
 }
 
 /// The input devices of hid-input before the first report: hid-sensor-hub has a single one.
-fn first_inputs(alloc: Global, reading: &LinuxReading) -> InputDevices {
+fn first_inputs(alloc: Global, reading: &LinuxReading) -> InputDevices
+    ensures { result ≡ first_inputs reading.now.driver reading.now }
+{
     match reading.driver() {
         Some(Driver::SensorHub) => InputDevices::new(alloc, 1, reading.unmapped()),
         _ => reading.input_devices(alloc),

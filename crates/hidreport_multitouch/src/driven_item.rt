@@ -35,9 +35,12 @@ pub(crate) struct TouchItem {
 impl TouchItem {
     ghost use Rattle.std.specs.Prelude.{◌≡◌};
     ghost use Rattle.hidreport_multitouch.specs.Driven.{unasked};
+    ghost use Rattle.hidreport_multitouch.specs.Fields.{behind_usage, touch_item};
 
     /// A field before its first usage.
-    pub(crate) fn at(field: &LinuxField, application: Option<usize>) -> TouchItem {
+    pub(crate) fn at(field: &LinuxField, application: Option<usize>) -> TouchItem
+        ensures { result ≡ touch_item field.now application }
+    {
         TouchItem {
             place: field.place,
             measures: field.measures,
@@ -49,10 +52,14 @@ impl TouchItem {
     }
 
     /// The item behind a usage.
-    pub(crate) fn behind(&self, usage: u32) -> TouchItem {
+    pub(crate) fn behind(&self, usage: u32) -> TouchItem
+        ensures { result ≡ behind_usage usage self.now }
+    {
         let mut behind = *self;
         behind.before = usage;
-        behind.usages = self.usages.saturating_add(1);
+        if self.usages < MOST_USAGES {
+            behind.usages += 1;
+        }
         behind
     }
 

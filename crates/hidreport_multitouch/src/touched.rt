@@ -23,10 +23,13 @@ pub(crate) struct Touched {
 
 impl Touched {
     ghost use Rattle.std.specs.Prelude.{◌≡◌};
+    ghost use Rattle.hidreport_multitouch.specs.Fields.{no_codes};
     ghost use Rattle.hidreport_multitouch.specs.Touched.{axis_of, has_code, with_code};
 
     /// Nothing.
-    pub(crate) fn new() -> Touched {
+    pub(crate) fn new() -> Touched
+        ensures { result ≡ no_codes }
+    {
         Touched {
             keys: [false; KEYS],
             axes: [None; AXES],

@@ -2,20 +2,24 @@
 ghost use Rattle.std.specs.Prelude.{◌≡◌};
 ghost use Rattle.hidreport_linux.specs.Events.{wanted};
 ghost use Rattle.hidreport_multitouch.specs.Driven.{is_shared_by};
+ghost use Rattle.hidreport_multitouch.specs.Passing.{with_codes};
 
 use super::DrivenDevices;
 use crate::driven_event::{DrivenEvent, Giver};
 use crate::driven_item::TouchItem;
 use crate::silent::Silent;
+use crate::touched::Touched;
 use hidreport::Usage;
-use hidreport_linux::{Event, Item, Unmapped, Wanted};
+use hidreport_linux::{Axis, Event, EventCode, Item, Unmapped, Wanted};
 
 /// The usage of a stylus.
 const STYLUS: u32 = 0x000d_0020;
 
 impl DrivenDevices {
     ghost use Rattle.std.specs.Prelude.{◌≡◌, slice_get};
-    ghost use Rattle.hidreport_multitouch.specs.Driven.{answered_in, driven_by, hid_input_answer, is_registered, unless_taken};
+    ghost use Rattle.hidreport_multitouch.specs.Driven.{answered_in, driven_by, hid_input_answer, inputs_at, is_registered, unless_taken};
+    ghost use Rattle.hidreport_multitouch.specs.Passing.{claimed, claimed_behind, GoesOnAt, input_behind, named_by};
+    ghost use Rattle.hidreport_multitouch.specs.Settled.{axis_for};
 
     /// What hid-input gives a usage.
     pub(super) fn hid_input_event(
@@ -24,7 +28,11 @@ impl DrivenDevices {
         usage: u32,
     ) -> Result<DrivenEvent, Silent>
         ensures answer { result ≡ hid_input_answer self.old item.old usage }
-        ensures touched { self.new.touched ≡ self.old.touched }
+        ensures item { item.new ≡ input_behind
+            (slice_get self.old.inputs.items (inputs_at self.old)) item.old usage }
+        ensures inputs { GoesOnAt item.old usage (inputs_at self.old) self.old.inputs.items
+            self.new.inputs.items }
+        ensures rest { self.new ≡ record self.old { inputs = self.new.inputs } }
     {
         let answer = self.answer_of(self.current_inputs(), item, usage);
         self.driven(answer)
@@ -34,6 +42,10 @@ impl DrivenDevices {
     fn answer_of(&mut self, index: usize, item: &mut Item, usage: u32) -> Result<Event, Unmapped>
         ensures answer { result
             ≡ answered_in (slice_get self.old.inputs.items index) item.old usage }
+        ensures item { item.new
+            ≡ input_behind (slice_get self.old.inputs.items index) item.old usage }
+        ensures inputs { GoesOnAt item.old usage index self.old.inputs.items
+            self.new.inputs.items }
         ensures rest { self.new ≡ record self.old { inputs = self.new.inputs } }
     {
         let Some(inputs) = self.inputs.get_mut(index) else {
@@ -61,8 +73,20 @@ impl DrivenDevices {
         touch: &TouchItem,
         usage: u32,
     ) -> Result<DrivenEvent, Silent>
-        ensures { result ≡ unless_taken self.old.touched.items touch.now usage
+        ensures answer { result ≡ unless_taken self.old.touched.items touch.now usage
             (hid_input_answer self.old item.old usage) }
+        ensures item { item.new ≡ input_behind
+            (slice_get self.old.inputs.items (inputs_at self.old)) item.old usage }
+        ensures inputs { GoesOnAt item.old usage (inputs_at self.old) self.old.inputs.items
+            self.new.inputs.items }
+        ensures names { self.new.names.items ≡ named_by touch.now self.old }
+        ensures touched { self.new.touched.items
+            ≡ claimed_behind self.old self.new touch.now result }
+        ensures rest { self.new ≡ record self.old {
+          inputs = self.new.inputs;
+          names = self.new.names;
+          touched = self.new.touched;
+        } }
     {
         self.name_stylus(touch);
         let answer = self.hid_input_event(item, usage);
@@ -76,7 +100,10 @@ impl DrivenDevices {
         usage: u32,
         answer: Result<DrivenEvent, Silent>,
     ) -> Result<DrivenEvent, Silent>
-        ensures { result ≡ unless_taken self.old.touched.items touch.now usage answer }
+        ensures answer { result ≡ unless_taken self.old.touched.items touch.now usage answer }
+        ensures touched { self.new.touched.items
+            ≡ claimed_behind self.old self.old touch.now result }
+        ensures rest { self.new ≡ record self.old { touched = self.new.touched } }
     {
         match answer {
             Ok(event) if self.is_registered(&event) && !is_shared(usage, touch) => {
@@ -103,7 +130,8 @@ impl DrivenDevices {
 
     /// Names the input device of a report of a stylus by it.
     fn name_stylus(&mut self, touch: &TouchItem)
-        ensures { self.new ≡ record self.old { names = self.new.names } }
+        ensures names { self.new.names.items ≡ named_by touch.now self.old }
+        ensures rest { self.new ≡ record self.old { names = self.new.names } }
     {
         if touch.place.physical != STYLUS {
             return;
@@ -114,17 +142,28 @@ impl DrivenDevices {
     }
 
     /// Keeps the codes of a usage that hid-input gives its code.
-    fn note_claims(&mut self, event: &DrivenEvent) {
+    fn note_claims(&mut self, event: &DrivenEvent)
+        ensures touched { self.new.touched.items ≡ claimed event.now.giver self.old
+            (axis_for self.old event.now) event.now }
+        ensures rest { self.new ≡ record self.old { touched = self.new.touched } }
+    {
         let axis = self.axis(event);
         let Some(touched) = self.touched.get_mut(event.device) else {
             return;
         };
         touched.register(event.code, axis);
         if let Giver::HidInput(role) = event.giver {
-            for code in role.beside() {
-                touched.register(*code, axis);
-            }
+            register_all(touched, role.beside(), axis);
         }
+    }
+}
+
+/// Registers codes whose axes say so of themselves.
+fn register_all(touched: &mut Touched, codes: &[EventCode], axis: Option<Axis>)
+    ensures { touched.new ≡ with_codes codes.now axis touched.old }
+{
+    for code in codes {
+        touched.register(*code, axis);
     }
 }
 

@@ -1,4 +1,7 @@
 //! The usages of touch reports.
+ghost use Rattle.std.specs.Prelude.{◌≡◌, OnOk};
+ghost use Rattle.hidreport_multitouch.specs.Fields.{application_in, touched_up_to};
+
 use super::DrivenDevices;
 use crate::contact_axis::touch_axis;
 use crate::contact_code::{TouchAnswer, TouchPlace, touch_code};
@@ -20,24 +23,33 @@ const TOUCH_SCREEN: u32 = 0x000d_0004;
 const TOUCH_PAD: u32 = 0x000d_0005;
 
 impl DrivenDevices {
-    ghost use Rattle.std.specs.Prelude.{◌≡◌, ◌==◌, slice_get};
+    ghost use Rattle.std.specs.Prelude.{◌≡◌, ◌==◌, IfOk, OnOk, Some, length, slice_get};
     ghost use Rattle.hidreport_linux.specs.Events.{wanted};
     ghost use Rattle.hidreport_multitouch.specs.Driven.{class_of, has_palms, left_by, tells_palms, touched_answer};
+    ghost use Rattle.hidreport_multitouch.specs.Fields.{application_in, applications_for, place_or, touch_item_for, touched_for, with_application};
+    ghost use Rattle.hidreport_multitouch.specs.Passing.{given_behind, given_by, noted_in, slots_of_facts};
     ghost use Rattle.hidreport_multitouch.specs.declared.driven_event.Giver.TheVariants as by;
 
     /// A field as hid-multitouch takes it, before its first usage; `None` where it doesn't take the
     /// device.
-    pub(super) fn touch_item(
-        &mut self,
-        field: &LinuxField,
-    ) -> Result<Option<TouchItem>, AllocError> {
+    pub(super) fn touch_item(&mut self, field: &LinuxField) -> Result<Option<TouchItem>, AllocError>
+        ensures item { IfOk result (λ item. item
+            ≡ touch_item_for self.old.facts field.now self.old.applications.items) }
+        ensures applications { OnOk result (self.new.applications.items
+            ≡ applications_for self.old.facts field.now self.old.current
+            self.old.applications.items) }
+        ensures touched { OnOk result (self.new.touched.items
+            ≡ touched_for self.old.facts self.old.current self.old.touched.items) }
+        ensures rest { self.new ≡ record self.old {
+          touched = self.new.touched;
+          applications = self.new.applications;
+        } }
+    {
         let is_touch_report = match &self.facts {
             Some(facts) => facts.is_touch_report(&field.report),
             None => return Ok(None),
         };
-        for _device in self.touched.len()..self.current.saturating_add(1) {
-            self.touched.push(Touched::new())?;
-        }
+        begin_devices(self.current, &mut self.touched)?;
         if !is_touch_report || matches!(field.report.direction, Direction::Feature) {
             return Ok(Some(TouchItem::at(field, None)));
         }
@@ -46,9 +58,17 @@ impl DrivenDevices {
     }
 
     /// Which of the applications with touch reports it is, of those so far or a new one.
-    fn application_at(&mut self, usage: u32) -> Result<usize, AllocError> {
+    fn application_at(&mut self, usage: u32) -> Result<usize, AllocError>
+        ensures place { IfOk result (λ index. index
+            ≡ place_or (application_in usage self.old.applications.items)
+            (length self.old.applications.items)) }
+        ensures applications { OnOk result (self.new.applications.items
+            ≡ with_application (application_in usage self.old.applications.items) usage
+            self.old.current self.old.applications.items) }
+        ensures rest { self.new ≡ record self.old { applications = self.new.applications } }
+    {
         let device = self.current;
-        if let Some(index) = self.applications.iter().position(|one| one.usage == usage) {
+        if let Some(index) = application_in(usage, &self.applications) {
             if let Some(application) = self.applications.get_mut(index) {
                 application.device = application.device.min(device);
             }
@@ -70,7 +90,14 @@ impl DrivenDevices {
         application: usize,
         usage: u32,
     ) -> Result<DrivenEvent, Silent>
-        ensures { result ≡ touched_answer self.old item.now application usage }
+        ensures answer { result ≡ touched_answer self.old item.now application usage }
+        ensures applications { self.new.applications.items
+            ≡ noted_in self.old item.now usage (Some application) }
+        ensures touched { self.new.touched.items ≡ given_behind self.old item.now result }
+        ensures rest { self.new ≡ record self.old {
+          applications = self.new.applications;
+          touched = self.new.touched;
+        } }
     {
         let place = TouchPlace {
             class: self.class(),
@@ -95,7 +122,9 @@ impl DrivenDevices {
     fn note_usage(&mut self, item: &TouchItem, application: usize, usage: u32) -> bool
         ensures palms { result ≡ has_palms (slice_get self.old.applications.items application)
             (tells_palms (class_of self.old.facts) item.now.place.application usage) }
-        ensures current { self.new.current ≡ self.old.current }
+        ensures applications { self.new.applications.items
+            ≡ noted_in self.old item.now usage (Some application) }
+        ensures rest { self.new ≡ record self.old { applications = self.new.applications } }
     {
         let is_screen = item.place.application == TOUCH_SCREEN;
         let is_touch = is_screen || item.place.application == TOUCH_PAD;
@@ -115,6 +144,8 @@ impl DrivenDevices {
         ensures code { result.code ≡ code }
         ensures device { result.device ≡ self.old.current }
         ensures giver { result.giver ≡ by.Multitouch (item.now.place.application == 0x1000e) }
+        ensures touched { self.new.touched.items ≡ given_by result.giver self.old item.now result }
+        ensures rest { self.new ≡ record self.old { touched = self.new.touched } }
     {
         let slots = self.slots();
         let axis = touch_axis(code, slots, &item.place, &item.measures);
@@ -131,7 +162,9 @@ impl DrivenDevices {
     }
 
     /// How many contacts an input device tells apart.
-    fn slots(&self) -> u8 {
+    fn slots(&self) -> u8
+        ensures { result ≡ slots_of_facts self.now.facts }
+    {
         match &self.facts {
             Some(facts) => facts.slots(),
             None => 1,
@@ -151,4 +184,30 @@ impl DrivenDevices {
             Err(reason) => Err(Silent::Unmapped(reason)),
         }
     }
+}
+
+/// No codes so far for each input device up to this one.
+fn begin_devices(current: usize, touched: &mut Vec<Touched>) -> Result<(), AllocError>
+    ensures { OnOk result (touched.new.items ≡ touched_up_to current touched.old.items) }
+{
+    if current < touched.len() {
+        return Ok(());
+    }
+    for _device in touched.len()..current {
+        touched.push(Touched::new())?;
+    }
+    touched.push(Touched::new())?;
+    Ok(())
+}
+
+/// Where an application stands among these, if it does.
+fn application_in(usage: u32, applications: &[TouchApplication]) -> Option<usize>
+    ensures { result ≡ application_in usage applications.now }
+{
+    for (index, one) in applications.iter().enumerate() {
+        if one.usage == usage {
+            return Some(index);
+        }
+    }
+    None
 }
