@@ -70,6 +70,10 @@ class Turned(Source):
         _, start, end = self.code[n]
         return self.text[start - 1 : start].isspace() and self.text[end : end + 1].isspace()
 
+    def is_of_type(self, n):
+        """A number between the brackets of a type, as `::<2>` has."""
+        return self.text[: self.at(n)].endswith(b"<")
+
     def turn(self, n, kind):
         """A number for what is turned at a word."""
         self.found.append((self.file, f"{kind} {self.word(n)}", self.line_at(self.at(n))))
@@ -130,7 +134,7 @@ class Turned(Source):
                 self.compare(at)
             elif word in ("&&", "||") and self.is_spaced(at):
                 self.terms(at, word, terms)
-            elif NUMBER.fullmatch(word) and self.word(at - 1) not in (".", ";"):
+            elif NUMBER.fullmatch(word) and self.word(at - 1) not in (".", ";") and not self.is_of_type(at):
                 self.number(at, word)
 
     def compare(self, at):
