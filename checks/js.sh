@@ -136,7 +136,9 @@ by_node() {
         python3 "$top/checks/hid/runs.py" --every 80 "$scratch/hid" > "$scratch/said" 2>&1 &&
         python3 "$top/checks/launchers/terminal.py" "$scratch/hid" > "$scratch/terminal" 2>&1
 }
-if [ ! -e "$scratch/package/hid.wasm.gz" ] || ! command -v python3 > /dev/null; then
+if ! stale=$(sh "$top/tools/program.sh" fresh hid); then
+    echo "$stale"
+elif [ ! -e "$scratch/package/hid.wasm.gz" ] || ! command -v python3 > /dev/null; then
     echo 'js: no `python3` on the path, or no module of hid, so its runs are not tried'
 else
     by_node || {
