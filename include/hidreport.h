@@ -17,7 +17,7 @@
 #define HIDREPORT_VERSION_MAJOR 0
 #define HIDREPORT_VERSION_MINOR 6
 #define HIDREPORT_VERSION_PATCH 0
-#define HIDREPORT_VERSION_STAGE 9
+#define HIDREPORT_VERSION_STAGE 10
 
 /* The same as one number, a byte each, the first as the highest. */
 #define HIDREPORT_VERSION \

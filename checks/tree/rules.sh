@@ -99,6 +99,7 @@ while read -r file text; do
 done << END_OF_FILES
 README.md Version $version (
 CHANGELOG.md ## $version (
+crates/hidreport_c/src/version.rt 0x$(sed 's/[.-]/ /g' <<< "$version" | xargs printf '%02x%02x_%02x%02x')
 crates/hid_commands/src/command_line.rt .version("$version")
 crates/hid/data/words.txt | hid $version
 share/man/man1/hid.1 "hidreport $version"

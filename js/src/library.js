@@ -3,7 +3,7 @@
 import { OutOfMemory } from "./errors.js";
 
 /** The version whose header this is. */
-export const VERSION = 0x00060009;
+export const VERSION = 0x0006000a;
 
 async function moduleBytes() {
   const places = ["../hidreport.wasm", "../../generated/wasm/hidreport.wasm"];

@@ -17,7 +17,7 @@ from .options import HOSTS, LINUX, Mends, ParseOptions, Push, UsagesBy
 from .repairing import Change, Reason, repair
 from .usages import Usage, page_by_name, page_name
 
-__version__ = "0.6.0-9"
+__version__ = "0.6.0-10"
 
 __all__ = [
     "HOSTS", "LINUX", "BudgetExceeded", "Change", "Collection", "Direction", "DoesNotFit", "Field",

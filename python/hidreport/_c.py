@@ -156,7 +156,7 @@ FUNCTIONS = {
 }
 
 # The version whose header this is: the numbers of HIDREPORT_VERSION, as one.
-VERSION = 0x00060009
+VERSION = 0x0006000a
 
 
 def _paths() -> List[str]:

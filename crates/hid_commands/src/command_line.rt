@@ -24,7 +24,7 @@ The status is 0, 1 where something is refused or can't be read, and 2 where the 
 /// `hid` with its commands.
 pub fn command_line<'a>(alloc: Global) -> Result<Command<'a>, AllocError> {
     let mut hid = Command::new(alloc, "hid")
-        .version("0.6.0-9")
+        .version("0.6.0-10")
         .about("Shows, reads, writes and checks HID report descriptors and reports")
         .after_help(AFTER)
         .subcommand_required(true)

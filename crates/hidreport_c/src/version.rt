@@ -4,7 +4,7 @@ ghost use Rattle.std.specs.Prelude.{◌≡◌, ◌+◌, ◌*◌};
 /// a byte each, the first as the highest (`HIDREPORT_VERSION`).
 #[unsafe(no_mangle)]
 pub extern "C" fn hidreport_version() -> u32
-    ensures { result ≡ 6 * 65536 + 9 }
+    ensures { result ≡ 6 * 65536 + 10 }
 {
-    0x0006_0009
+    0x0006_000a
 }
