@@ -1,6 +1,6 @@
 #!/bin/bash
 # That contracts, definitions and tests have teeth: every edit that the prover must refuse
-# (mutations/edits.sh), then each law and definition with a part turned and each meaning that code and
+# (mutations/edits.py), then each law and definition with a part turned and each meaning that code and
 # definition share (mutations/planted.sh), and whether rows are false once a part of their law is empty
 # (mutations/emptied.py); what is turned where no proof is (mutations/plants.py); that each branch of the
 # libraries is reached (mutations/reached.py), each bound, term and number of their code held by a case or a
@@ -9,7 +9,7 @@
 set -eu
 export LC_ALL=C
 cd "$(dirname "$0")/mutations"
-bash edits.sh
+python3 edits.py
 bash planted.sh
 python3 emptied.py --false
 python3 plants.py
