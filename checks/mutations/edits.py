@@ -1,5 +1,5 @@
 #!/usr/bin/env python3
-"""Tries every edit that the prover must refuse, crates/NAME/more-edits/*.edit.
+"""Tries every edit that the prover must refuse (edited.py).
 
     edits.py [--keep FOLDER] [--jobs NUMBER] [CRATE ..]
 
@@ -11,8 +11,8 @@ What no function that it changes refuses is tried alone, where each function of 
 
 Nothing below is proved again: the libraries are those that `rt ci` has left in crates/*/out, or in those of
 the tree HIDREPORT_PROVED. --keep takes what FOLDER has of the crates as they stand, or leaves it there; so
-many checks run side by side as --jobs says, each takes one to four GB. Its status is 0 where every file of
-these folders is an edit, and each was refused.
+many checks run side by side as --jobs says, each takes one to four GB. Its status is 0 where all are edits,
+and each was refused.
 """
 
 import argparse
@@ -24,7 +24,9 @@ import tempfile
 import threading
 import time
 
-from wrong_bodies import TOP, Edit, check, libraries, words_for
+from edited import Edit, crates_with_edits, edits_of, read
+from proved import TOP, words_for
+from wrong_bodies import check
 
 FUNCTION = re.compile(r"^ *(?:pub(?:\([^)]*\))? )?(?:(?:const|unsafe|extern \"C\") )*fn (\w+)", re.M)
 # A proof that names what an edit took away says little of the contract.
@@ -35,19 +37,19 @@ LIMITS = re.compile(r"antt ran out of|outgrew the memory limit|stopped at the st
 class Change(Edit):
     """An edit with the functions that it changes: their modules and names."""
 
-    def __init__(self, crate, path):
-        super().__init__(crate, path)
-        self.where = f"{crate}/{os.path.basename(path)}"
+    def __init__(self, crate, lines):
+        super().__init__(crate, lines)
         self.touched = set()
 
-    def apply(self, texts, folder, is_twin=False):
-        for file, old, _, _ in self.changes:
-            text = texts.get(file) or read(f"{folder}/{file}")
+    def apply(self, texts, is_twin=False):
+        for change in self.changes:
+            file, old = change["file"], change["old"]
+            text = texts.get(file) or read(f"{TOP}/crates/{self.crate}/{file}")
             at = text.find(old) + len(old)
             names = [it[1] for it in FUNCTION.finditer(text) if it.end() <= at]
             module = re.sub(r"^src/(lib$)?", "", file[: -len(".rt")]).replace("/", "::")
             self.touched.add((module, names[-1] if names else ""))
-        return super().apply(texts, folder, is_twin)
+        return super().apply(texts, is_twin)
 
 
 class Copy:
@@ -59,7 +61,7 @@ class Copy:
         self.crate, self.edits, self.texts, self.touched = crate, [], {}, set()
 
     def takes(self, edit):
-        made = edit.apply(self.texts, f"{TOP}/crates/{self.crate}")
+        made = edit.apply(self.texts)
         if made is None or made == self.texts or self.touched & edit.touched:
             return False
         self.edits.append(edit)
@@ -68,35 +70,6 @@ class Copy:
 
     def functions(self):
         return []
-
-
-def read(path):
-    with open(path, encoding="utf-8") as it:
-        return it.read()
-
-
-def fault_of(path):
-    """Why a file isn't an edit, or nothing."""
-    if os.path.isdir(path) or not re.fullmatch(r"[A-Za-z0-9_-][A-Za-z0-9_.-]*\.edit", os.path.basename(path)):
-        return "its name isn't that of an edit"
-    file = old = None
-    pairs = 0
-    for number, line in enumerate(read(path).rstrip("\n").split("\n")):
-        word, _, text = line.partition(":")
-        if number == 0:
-            if not line.startswith("# "):
-                return "its first line doesn't say what is turned"
-        elif word == "file" and re.fullmatch(r" src/[a-z0-9_/]+\.rt", text):
-            file = text[1:]
-            if not os.path.isfile(f"{os.path.dirname(os.path.dirname(path))}/{file}"):
-                return f"there is no {file}"
-        elif word == "old" and file and not old and text.startswith(" "):
-            old = text
-        elif word == "new" and old:
-            old, pairs = None, pairs + 1
-        elif word not in ("refused", "twin"):
-            return f"it has the line `{line}`"
-    return None if pairs and not old else "it has no new text for an old one"
 
 
 def refusals(crate, said):
@@ -136,15 +109,12 @@ class Trial:
 
     def gather(self):
         """The edits of the crate."""
-        folder = f"{TOP}/crates/{self.crate}/more-edits"
-        edits = []
-        for name in sorted(os.listdir(folder)):
-            self.count += 1
-            if why := fault_of(f"{folder}/{name}"):
-                self.tell(f"{self.crate}/{name}", f"BAD EDIT: {why}")
-            else:
-                edits.append(Change(self.crate, f"{folder}/{name}"))
-        return edits
+        edits = edits_of(self.crate, Change)
+        self.count = len(edits)
+        for edit in edits:
+            if edit.fault:
+                self.tell(edit.where, f"BAD EDIT: {edit.fault}")
+        return [edit for edit in edits if not edit.fault]
 
     def ask(self, one, name, kept, jobs):
         with self.lanes, tempfile.TemporaryDirectory(dir=self.scratch, prefix=f"{name}-") as room:
@@ -228,6 +198,10 @@ def together(threads):
         it.join()
 
 
+def size_of(folder):
+    return sum(os.path.getsize(f"{here}/{it}") for here, _, files in os.walk(folder) for it in files)
+
+
 def side_by_side():
     """So many checks as there are processors, each with four GB."""
     with open("/proc/meminfo", encoding="utf-8") as lines:
@@ -242,12 +216,11 @@ def main():
     asked.add_argument("--jobs", type=int, default=side_by_side())
     asked.add_argument("crates", nargs="*")
     asked = asked.parse_args()
-    with_edits = [it for it in libraries() if os.path.isdir(f"{TOP}/crates/{it}/more-edits")]
+    with_edits = crates_with_edits()
     for crate in asked.crates:
         if crate not in with_edits:
             sys.exit(f"edits: no crate `{crate}` has edits")
-    size = {it: sum(len(read(f"{folder}/{file}")) for folder, _, files in os.walk(f"{TOP}/crates/{it}/proofs")
-                    for file in files) for it in asked.crates or with_edits}
+    size = {it: size_of(f"{TOP}/crates/{it}/proofs") for it in asked.crates or with_edits}
     with tempfile.TemporaryDirectory() as scratch:
         lanes = threading.Semaphore(asked.jobs)
         trials = [

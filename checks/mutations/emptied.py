@@ -26,47 +26,15 @@ import tempfile
 import time
 
 from laws import Laws
+from proved import TOP, crates_below, libraries, words_for
 from rows import functions_of
 from trials import Copy, Trial
 
-TOP = os.path.dirname(os.path.dirname(os.path.dirname(os.path.abspath(__file__))))
 CRATE = "hidreport_definitions"
 # What no one can prove: each file of lemmas has it, so that one which isn't looked at is noticed.
 WATCHED = "watched : ◌≡◌ {A = ℕ} 0 1\nwatched = refl\n"
 # The law that is spoilt.
 SPOILT = "IsScale"
-
-
-def crates_below(own, crate):
-    """The libraries that a crate is built on, of the repository and of the kit."""
-    found = []
-    for name in own.get(crate, "").split():
-        found += [name, *crates_below(own, name)]
-    return list(dict.fromkeys(found))
-
-
-def libraries():
-    """What each crate uses, by crates.txt."""
-    with open(f"{TOP}/crates.txt", encoding="utf-8") as lines:
-        return dict(re.findall(r"^(\w+)[^:#\n]*:(.*)$", lines.read(), re.M))
-
-
-def command_for(own):
-    """The words by which `rattle check` reads the copy."""
-    said = subprocess.run(["rt", "doc"], capture_output=True, text=True, check=True).stdout
-    kit = os.path.dirname(said.strip())
-    proved = os.environ.get("HIDREPORT_PROVED", TOP)
-    command = [f"{kit}/bin/rattle", "check", "--crate-name", CRATE, "src/lib.rt"]
-    command += ["-L", f"dependency={kit}/rlibs", "--extern", f"std={kit}/rlibs/std.rlib"]
-    for name in crates_below(own, CRATE):
-        if name not in own:
-            continue
-        folder = f"{proved}/crates/{name}/out/rlib"
-        if not os.path.isdir(f"{folder}/{name}.rlib"):
-            sys.exit(f"emptied: no {folder}/{name}.rlib: `rt ci` leaves it")
-        command += ["-L", f"dependency={folder}", "--extern", f"{name}={folder}/{name}.rlib"]
-    command += ["--antt-project", f"{kit}/rattle/logic/antt-project.json"]
-    return command + ["--logic-built", f"{kit}/logic_built", "--jobs", os.environ.get("JOBS", "2")]
 
 
 def asked(command, folder):
@@ -171,7 +139,7 @@ def main():
     begun = time.monotonic()
     word = sys.argv[-1] if sys.argv[1:] else None
     own = libraries()
-    laws = Laws(TOP, [it for it in crates_below(own, CRATE) if it in own])
+    laws = Laws(TOP, [it for it in crates_below(CRATE) if it in own])
     functions = functions_of(f"{TOP}/crates/{CRATE}")
     trials = {}
     for law in sorted(laws.cited(), key=repr):
@@ -187,7 +155,8 @@ def main():
             trial.write_laws(copy)
             trial.write_rows(copy, functions, behind_rows(word))
         copy.close()
-        judge = Judge(asked(command_for(own), scratch))
+        jobs = ["--jobs", os.environ.get("JOBS", "2")]
+        judge = Judge(asked([*words_for(CRATE, names_all=True), *jobs], scratch))
     for law, (whole, *parts) in trials.items():
         judge.judge(law, whole, parts)
     for fault in judge.faults:

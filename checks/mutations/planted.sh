@@ -6,9 +6,9 @@
 # - `meanings`: code that does otherwise, as if its definition said so too, so that no proof would
 #   tell (checks/mutations/planted/meanings.txt). The cases, built without a proof, or the tests have to tell.
 #   Some 40 seconds each.
-# Its arguments are these words, both without any; `laws 3` begins with the third. It takes what
-# earlier checks of the crates kept, if there is something. It is run before a version gets its
-# number. Its status is 0 where all are noticed.
+# Its arguments are these words, both without any; `laws 3` begins with the third. Laws are tried over the
+# libraries that `rt ci` has left (proved.py). It is run before a version gets its number. Its status is 0
+# where all are noticed.
 set -eu
 export LC_ALL=C
 
@@ -40,33 +40,18 @@ path.write_text(text.replace(old, new), encoding="utf-8")
 SOURCE
 }
 
-# The folders of crates in a copy: with what was kept of them, by links where that can be.
-copy_crates() {
-    mkdir -p "$1/crates"
-    git init -q "$1"
-    cp "$top/HANDLES" "$1"
-    local crate copy=$1
-    shift
-    for crate in "$@"; do
-        cp -al "$top/crates/$crate" "$copy/crates/$crate" 2> /dev/null ||
-            cp -r "$top/crates/$crate" "$copy/crates/$crate"
-    done
-}
-
-# Checks one row; its line of the end says whether it is proved.
+# Checks one row, over the libraries that `rt ci` has left; a line of the end says whether it is proved.
 row_is_proved() {
-    (cd "$scratch/laws/crates/hidreport_definitions" && rt check --only "$1") \
-        > "$scratch/said" 2>&1
+    (cd "$scratch/laws" && "${words[@]}" --only "$1") > "$scratch/said" 2>&1
     grep -q '^only=1 proved=1' "$scratch/said"
 }
 
 # Begins a row anew, with a copy of the law in the place of the law.
 stand_in() {
-    local crate="$scratch/laws/crates/hidreport_definitions" folder
-    for folder in src specs proofs; do
-        rm -rf "${crate:?}/$folder"
-        cp -r "$top/crates/hidreport_definitions/$folder" "$crate"
-    done
+    local crate="$scratch/laws" folder
+    rm -rf "${crate:?}"
+    mkdir "$crate"
+    cp -r "$top/crates/hidreport_definitions"/{src,specs,proofs} "$crate"
     for folder in hidreport hidreport_fields hidreport_lists hidreport_items hidreport_types; do
         if [ -f "$top/crates/$folder/specs/$1.antt" ]; then
             cp "$top/crates/$folder/specs/$1.antt" "$crate/specs/Planted.antt"
@@ -79,7 +64,7 @@ stand_in() {
 }
 
 try_law() {
-    local crate="$scratch/laws/crates/hidreport_definitions"
+    local crate="$scratch/laws"
     stand_in "$law"
     if ! grep -qxF "$law $row" "$scratch/proved"; then
         row_is_proved "$row" || {
@@ -104,12 +89,8 @@ try_law() {
 }
 
 try_laws() {
-    copy_crates "$scratch/laws" hidreport_types hidreport_items hidreport_lists hidreport_fields hidreport
-    cp -r "$top/crates/hidreport_definitions" "$scratch/laws/crates"
-    sed -n '/^hidreport_types:\|^hidreport_items:\|^hidreport_lists:\|^hidreport_fields:\|^hidreport:/p' \
-        "$top/crates.txt" > "$scratch/laws/crates.txt"
-    echo 'hidreport_definitions: hidreport hidreport_fields hidreport_lists hidreport_items hidreport_types' \
-        >> "$scratch/laws/crates.txt"
+    local words
+    mapfile -t words < <(python3 "$top/checks/mutations/proved.py" hidreport_definitions)
     : > "$scratch/proved"
     number=0
     while read -r word text; do

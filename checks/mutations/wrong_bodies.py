@@ -4,11 +4,10 @@ the library, by the clause that it breaks, and accepts its harmless twin of the 
 
     wrong_bodies.py [--spoil NAME] [CRATE ..]
 
-Wrong bodies are the edits below crates/*/more-edits that have a line `refused: FUNCTION GOAL`: the
-function that the prover has to refuse, and the goal that has to stay open there, as its line `fn
-FUNCTION: no proof: .. `search` did not prove `GOAL`` calls it (a goal's name ends in the name of its
-clause, where a function has several). Behind a `new:` line a line `twin:` has the text of the twin,
-where it is another.
+Wrong bodies are the edits (edited.py) that have a line `refused: FUNCTION GOAL`: the function that the
+prover has to refuse, and the goal that has to stay open there, as its line `fn FUNCTION: no proof: ..
+`search` did not prove `GOAL`` calls it (a goal's name ends in the name of its clause, where a function has
+several).
 
 Edits of a crate are tried together, in as few copies of the crate as may be: each old text has to
 stand just once in what the edits before it made, and no two have a function in common. In a copy just
@@ -30,49 +29,11 @@ import tempfile
 import time
 from concurrent.futures import ThreadPoolExecutor
 
-TOP = os.path.dirname(os.path.dirname(os.path.dirname(os.path.abspath(__file__))))
+from edited import crates_with_edits, edits_of
+from proved import TOP, words_for
+
 # So many wrong bodies are tried.
 ALL = 24
-
-
-class Edit:
-    """A wrong body with its twin."""
-
-    def __init__(self, crate, path):
-        self.crate, self.name = crate, os.path.basename(path)[: -len(".edit")]
-        self.wanted, self.changes = [], []
-        file = None
-        with open(path, encoding="utf-8") as lines:
-            for line in lines.read().split("\n"):
-                word, _, text = line.partition(": ")
-                if word == "file":
-                    file = text
-                elif word == "refused":
-                    self.wanted.append(tuple(text.split()))
-                elif word == "old":
-                    old = text
-                elif word == "new":
-                    self.changes.append([file, old, text, text])
-                elif word == "twin":
-                    self.changes[-1][3] = text
-
-    def functions(self):
-        return [function for function, _ in self.wanted]
-
-    def swap(self):
-        self.changes = [[file, old, twin, new] for file, old, new, twin in self.changes]
-
-    def apply(self, texts, folder, is_twin):
-        """The texts of the crate's files with this edit; none where an old text isn't there once."""
-        made = dict(texts)
-        for file, old, new, twin in self.changes:
-            if file not in made:
-                with open(f"{folder}/{file}", encoding="utf-8") as it:
-                    made[file] = it.read()
-            if made[file].count(old) != 1:
-                return None
-            made[file] = made[file].replace(old, twin if is_twin else new)
-        return made
 
 
 class Round:
@@ -83,12 +44,12 @@ class Round:
 
     def takes(self, edit):
         """Takes an edit, if it can be tried beside those that are here."""
-        olds = {(it[0], it[1]) for own in self.edits for it in own.changes}
-        if any((it[0], it[1]) in olds for it in edit.changes):
+        olds = {(it["file"], it["old"]) for own in self.edits for it in own.changes}
+        if any((it["file"], it["old"]) in olds for it in edit.changes):
             return False
         if not self.is_twin and set(self.functions()) & set(edit.functions()):
             return False
-        made = edit.apply(self.texts, f"{TOP}/crates/{self.crate}", self.is_twin)
+        made = edit.apply(self.texts, self.is_twin)
         if made is None:
             return False
         self.edits.append(edit)
@@ -109,35 +70,6 @@ def rounds_of(crate, edits, is_twin, faults):
             else:
                 faults.append(f"{crate}/{edit.name}: not tried: an old text of it isn't there just once")
     return rounds
-
-
-def libraries():
-    """What each crate uses, by crates.txt."""
-    found = {}
-    with open(f"{TOP}/crates.txt", encoding="utf-8") as lines:
-        for line in lines:
-            if match := re.match(r"(\w+)[^:#]*:(.*)", line):
-                found[match[1]] = match[2].split()
-    return found
-
-
-def words_for(crate):
-    """The words by which `rattle check` reads the crate in the current folder."""
-    said = subprocess.run(["rt", "doc"], capture_output=True, text=True, check=True).stdout
-    kit = os.path.dirname(said.strip())
-    proved = os.environ.get("HIDREPORT_PROVED", TOP)
-    own = libraries()
-    words = [f"{kit}/bin/rattle", "check", "--crate-name", crate, "src/lib.rt"]
-    words += ["-L", f"dependency={kit}/rlibs"]
-    for name in ["std", *own[crate]]:
-        folder = f"{proved}/crates/{name}/out/rlib" if name in own else f"{kit}/rlibs"
-        if not os.path.isdir(f"{folder}/{name}.rlib"):
-            sys.exit(f"wrong_bodies: no {folder}/{name}.rlib: `rt ci` leaves it")
-        words += ["--extern", f"{name}={folder}/{name}.rlib"]
-        if name in own:
-            words += ["-L", f"dependency={folder}"]
-    words += ["--antt-project", f"{kit}/rattle/logic/antt-project.json"]
-    return words + ["--logic-built", f"{kit}/logic_built"]
 
 
 def check(words, one, room, kept, jobs):
@@ -223,19 +155,18 @@ def main():
     if words[:1] == ["--spoil"]:
         spoilt, words = words[1], words[2:]
     edits = {}
-    for crate in sorted(os.listdir(f"{TOP}/crates")):
-        folder = f"{TOP}/crates/{crate}/more-edits"
-        for name in sorted(os.listdir(folder)) if os.path.isdir(folder) else []:
-            edit = Edit(crate, f"{folder}/{name}")
-            if edit.wanted:
-                edits.setdefault(crate, []).append(edit)
+    for crate in crates_with_edits():
+        if found := [edit for edit in edits_of(crate) if edit.wanted]:
+            edits[crate] = found
     faults = []
     every = [it for own in edits.values() for it in own]
     if len(every) != ALL:
         faults.append(f"{len(every)} wrong bodies are there, and not {ALL}")
     for edit in every:
-        if all(new == twin for _, _, new, twin in edit.changes):
-            faults.append(f"{edit.crate}/{edit.name}: it has no twin")
+        if edit.fault:
+            faults.append(f"{edit.where}: no edit: {edit.fault}")
+        elif not edit.has_twin():
+            faults.append(f"{edit.where}: it has no twin")
         if edit.name == spoilt:
             edit.swap()
     tried = {crate: own for crate, own in edits.items() if not words or crate in words}

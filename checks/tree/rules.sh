@@ -22,19 +22,7 @@ for crate in $listed; do
 done
 
 # Edits: each file that one names is there, and has each `old:` text just once.
-for edit in crates/*/more-edits/*.edit; do
-    file=
-    while IFS= read -r line; do
-        case $line in
-            'file: '*) file=${edit%/*/*}/${line#file: } ;;
-            'old: '*)
-                times=$(grep -oF -e "${line#old: }" "$file" 2> /dev/null | wc -l)
-                [ "$times" -eq 1 ] || fault "$edit: its text stands $times times in $file"
-                ;;
-        esac
-    done < "$edit"
-    [ -n "$file" ] || fault "$edit names no file"
-done
+found=$(python3 checks/mutations/edited.py) || fault "$found"
 # Plants: each text stands just once in the file that is named, or in the law's.
 for plants in checks/mutations/planted/*.txt; do
     files=()
@@ -64,7 +52,7 @@ for plants in checks/mutations/plants/*.txt; do
     done < "$plants"
 done
 found=$(ls crates/*/must-fail/* 2> /dev/null)
-[ -z "$found" ] || fault "edits lie in more-edits: for these rt ci would prove a crate once more:" $found
+[ -z "$found" ] || fault "edits lie in checks/mutations/edits: for these rt ci would prove a crate once more:" $found
 
 # Layout: each source is as `rt fmt` writes it.
 mapfile -t sources < <(find crates \( -name '*.rt' -path '*/src/*' -o -name '*.antt' \) \
