@@ -176,10 +176,12 @@ wants 1 '/dev/hidraw1: a �
 # Files in place of folders.
 mkdir -p files/class/hidraw/hidraw0
 echo > files/class/hidraw/hidraw0/device
-wants 1 '/dev/hidraw0: refused: Not a directory (os error 20)' list --sysfs files
+wants 1 '/dev/hidraw0: refused: files/class/hidraw/hidraw0/device/uevent: Not a directory (os error 20)' \
+    list --sysfs files
 device input 0 '' 0003:0000046D:0000C077 'a mouse' "$data/mouse.hex"
 echo > input/class/hidraw/hidraw0/device/input
-wants 1 'hid: list: Not a directory (os error 20)' list --sysfs input
+wants 1 'hid: list: input/class/hidraw/hidraw0/device/input: Not a directory (os error 20)' \
+    list --sysfs input
 device three 0 '' 0003:0000046D 'a mouse' "$data/mouse.hex"
 device three 1 '' 0003:0000046D:0000C077 'a mouse' "$data/mouse.hex"
 wants 1 "/dev/hidraw0: refused: three/class/hidraw/hidraw0/device/uevent: HID_ID isn't three numbers

@@ -59,7 +59,7 @@ pub fn machine_device<R: AllocGlobal + Files>(
 ) -> Result<Option<MachineDevice>> {
     let folder = folder_of(rt.alloc(), sysfs, number)?;
     let path = format!(in rt.alloc(); "{folder}/uevent")?;
-    let Some(text) = told(rt, path.as_str())? else {
+    let Some(text) = told(rt, path.as_str()).context(format_args!("{path}"))? else {
         return Ok(None);
     };
     let device = MachineDevice::of(rt.alloc(), number, text.as_str()).context(format_args!(

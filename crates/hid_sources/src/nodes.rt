@@ -1,5 +1,5 @@
 //! The nodes of a device's input devices, as Linux tells of them in sysfs.
-use anyhow::Result;
+use anyhow::{Context, Result};
 use std::rt::Files;
 use std::{fs, io};
 
@@ -34,7 +34,7 @@ fn names_in<R: AllocGlobal + Files + Clone + Drop>(rt: &R, folder: &str) -> Resu
     let entries = match fs::read_dir(rt, folder) {
         Ok(entries) => entries,
         Err(error) if error.kind() == io::ErrorKind::NotFound => return Ok(names),
-        Err(error) => return Err(error.into()),
+        Err(error) => return Err(error).context(format_args!("{folder}")),
     };
     for entry in entries {
         let entry = entry?;
