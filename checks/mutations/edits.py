@@ -42,14 +42,14 @@ class Change(Edit):
         self.touched = set()
 
     def apply(self, texts, is_twin=False):
-        for change in self.changes:
-            file, old = change["file"], change["old"]
-            text = texts.get(file) or read(f"{TOP}/crates/{self.crate}/{file}")
-            at = text.find(old) + len(old)
+        made = super().apply(texts, is_twin)
+        for change in self.changes if made else []:
+            text = texts.get(change["file"]) or read(f"{TOP}/crates/{self.crate}/{change['file']}")
+            at = text.find(change["old"]) + len(change["old"])
             names = [it[1] for it in FUNCTION.finditer(text) if it.end() <= at]
-            module = re.sub(r"^src/(lib$)?", "", file[: -len(".rt")]).replace("/", "::")
+            module = re.sub(r"^src/(lib$)?", "", change["file"][: -len(".rt")]).replace("/", "::")
             self.touched.add((module, names[-1] if names else ""))
-        return super().apply(texts, is_twin)
+        return made
 
 
 class Copy:
