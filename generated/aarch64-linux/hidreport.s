@@ -30841,7 +30841,7 @@
 	.type	hidreport_version,@function
 hidreport_version:                      // @hidreport_version
 // %bb.0:                               // %start
-	mov	w0, #9                          // =0x9
+	mov	w0, #10                         // =0xa
 	movk	w0, #6, lsl #16
 	ret
 .Lfunc_end106:

@@ -26,7 +26,7 @@
 #define HIDREPORT_VERSION_MAJOR 0
 #define HIDREPORT_VERSION_MINOR 6
 #define HIDREPORT_VERSION_PATCH 0
-#define HIDREPORT_VERSION_STAGE 9
+#define HIDREPORT_VERSION_STAGE 10
 
 /* The same as one number, a byte each, the first as the highest. */
 #define HIDREPORT_VERSION \
@@ -79030,7 +79030,7 @@ static u32 w2c_f102(Z_hidreport_instance_t* instance, u64 w2c_p0, u64 w2c_p1, u6
 static u32 w2c_hidreport_version(Z_hidreport_instance_t* instance) {
   FUNC_PROLOGUE;
   u32 w2c_i0;
-  w2c_i0 = 393225u;
+  w2c_i0 = 393226u;
   FUNC_EPILOGUE;
   return w2c_i0;
 }

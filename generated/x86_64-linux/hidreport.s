@@ -32034,7 +32034,7 @@
 	.type	hidreport_version,@function
 hidreport_version:                      # @hidreport_version
 # %bb.0:                                # %start
-	movl	$393225, %eax                   # imm = 0x60009
+	movl	$393226, %eax                   # imm = 0x6000A
 	retq
 .Lfunc_end103:
 	.size	hidreport_version, .Lfunc_end103-hidreport_version
