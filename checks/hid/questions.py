@@ -152,7 +152,8 @@ def ask_library(pool, blocks, together=400, ask=ask_file):
         if len(lines) >= together:
             jobs.append((len(jobs), lines))
             lines = []
-    jobs.append((len(jobs), lines))
+    if lines:
+        jobs.append((len(jobs), lines))
     answers = [it for part in pool.map(ask, jobs) for it in part]
     at = 0
     for block in blocks:
